@@ -1,0 +1,72 @@
+-- Laws of parts of lists, and of lists made by their elements.
+use mathlib.Core.Path.{_≡_, refl, sym, _∙_}
+use mathlib.Core.List.{List, [], _∷_, _++_}
+use mathlib.Core.Logic.{⊎-elim}
+use Prim.Native.Nat.{ℕ, zero, suc, _+_, _-_, _<_, _≤_}
+use native.Mathlib.Numerals.{add-one}
+use native.Mathlib.Omega.{arith}
+use lib.ListN.{length, getD, take, drop, set, length-append, length-take, length-drop, length-set, replicate, length-replicate, List·getD-append}
+use lib.Seq.{getD-take, getD-drop, getD-at, take-suc-set, take-all, ext-getD}
+use Rattle.words.specs.Lists.{part, tabulate}
+use Rattle.words.proofs.Bounded.{last-or-below}
+
+module _ (f : ℕ → ℕ) where
+  pub tabulate-more : (n : ℕ) → tabulate f (n + 1) ≡ tabulate f n ++ (f n ∷ [])
+  unfolding tabulate
+  tabulate-more n = rw add-one refl
+
+  pub length-tabulate : (n : ℕ) → length (tabulate f n) ≡ n
+  unfolding tabulate
+  length-tabulate zero = refl
+  length-tabulate (suc n) = length-append (tabulate f n) (f n ∷ []) ∙ (let e = length-tabulate n in omega arith)
+
+  pub getD-tabulate : (n i : ℕ) → i < n → getD (tabulate f n) i 0 ≡ f i
+  unfolding tabulate
+  getD-tabulate zero i h = let z : ⊥ = omega arith in absurd z
+  getD-tabulate (suc n) i h =
+      ⊎-elim (λ (q : i ≡ n). rw q (getD-at (tabulate f n) (f n) [] 0 n (length-tabulate n)))
+      (λ (l : i < n). List·getD-append (tabulate f n) (f n ∷ []) 0 i (let e = length-tabulate n in omega arith) ∙ getD-tabulate n i l)
+      (last-or-below h)
+
+module _ (xs : List ℕ) (a m : ℕ) where
+  pub length-part : a + m ≤ length xs → length (part xs a m) ≡ m
+  unfolding part
+  length-part h = simp (length-take, length-drop) (omega arith)
+
+  pub getD-part : (i : ℕ) → i < m → getD (part xs a m) i 0 ≡ getD xs (a + i) 0
+  unfolding part
+  getD-part i h = getD-take m (drop a xs) i 0 h ∙ getD-drop a xs i 0
+
+  -- a part, by its elements
+  pub part-tabulate : a + m ≤ length xs → tabulate (λ i. getD xs (a + i) 0) m ≡ part xs a m
+  part-tabulate h =
+      ext-getD 0 (tabulate (λ i. getD xs (a + i) 0) m) (part xs a m) (length-tabulate _ m ∙ sym (length-part h))
+      (λ i l. let l′ : i < m = (let e = length-tabulate (λ i. getD xs (a + i) 0) m in omega arith) in getD-tabulate _ m i l′ ∙ sym (getD-part i l′))
+
+pub part-same : (xs ys : List ℕ) (a m : ℕ) → length xs ≡ length ys → ((i : ℕ) → i < m → getD xs (a + i) 0 ≡ getD ys (a + i) 0) → part xs a m ≡ part ys a m
+unfolding part
+part-same xs ys a m e h =
+    ext-getD 0 (part xs a m) (part ys a m) (simp (length-take, length-drop) (omega arith))
+    (λ i l. let k : i < m = omega (arith, simp (length-take, length-drop) at l) in getD-part xs a m i k ∙ h i k ∙ sym (getD-part ys a m i k))
+
+-- A loop that fills an array of n elements
+
+-- before its turn t, the array w has the elements of f t in front
+abbrev pub Filling : (ℕ → List ℕ) → ℕ → List ℕ → ℕ → Type 0
+Filling f n w t = (t ≤ n) × (length w ≡ n) × (take t w ≡ f t)
+
+pub filling-starts : (g : ℕ → ℕ) (n : ℕ) → Filling (tabulate g) n (replicate n 0) 0
+unfolding tabulate
+filling-starts g n = (omega arith, length-replicate n 0, refl)
+
+pub filling-turn : (g : ℕ → ℕ) (n : ℕ) (w : List ℕ) (t : ℕ) {v : ℕ} → Filling (tabulate g) n w t → t < n → v ≡ g t
+    → Filling (tabulate g) n (set w t v) (t + 1)
+unfolding tabulate
+filling-turn g n w t {v} i h e =
+    (omega arith, simp length-set (i .1), rw (add-one, take-suc-set w t v (omega arith)) (let p = i .2 in cc))
+
+pub filling-ends : (f : ℕ → List ℕ) {n : ℕ} (w : List ℕ) (t : ℕ) → Filling f n w t → n ≤ t → w ≡ f n
+filling-ends f {n} w t i h =
+    let e : t ≡ n = omega arith in
+    let p : take n w ≡ f n = rw e at (i .2) in
+    sym (take-all n w (omega arith)) ∙ p

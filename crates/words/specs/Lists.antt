@@ -1,0 +1,13 @@
+-- Parts of lists, and lists by their elements. Plain mathematics.
+use mathlib.Core.List.{List, [], _∷_, _++_}
+use Prim.Native.Nat.{ℕ, zero, suc}
+use lib.ListN.{take, drop}
+
+-- the m elements of xs from place a on (as many of them as there are)
+unfoldable pub part : List ℕ → ℕ → ℕ → List ℕ
+part xs a m = take m (drop a xs)
+
+-- f 0, f 1, .., f (n - 1)
+unfoldable pub tabulate : (ℕ → ℕ) → ℕ → List ℕ
+tabulate f zero = []
+tabulate f (suc n) = tabulate f n ++ (f n ∷ [])
