@@ -1,0 +1,3 @@
+pub mod Computation
+pub mod Padded
+pub mod Search

@@ -1,0 +1,20 @@
+-- The digest that is looked for is the block's.
+use mathlib.Core.Path.{_∙_, ap}
+use mathlib.Core.List.{List}
+use Prim.Native.Nat.{ℕ}
+use borrow.Author.Needs.{needs}
+use Rattle.signature.specs.Signed.{signed}
+use Rattle.signature.proofs.golden.is_signed.Statement.{statement}
+use Rattle.signature.proofs.golden.is_signed.Tie as tie
+
+returns : tie.Need-returns
+unfolding signed
+returns c = cc
+
+pub is-signed-spec : {M : Type 1} → statement M
+is-signed-spec =
+    tie.close
+    (tie.spec
+    (search needs)
+    (search needs)
+    returns)

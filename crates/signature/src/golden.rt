@@ -1,0 +1,44 @@
+// Is a block signed: the search of the golden image for its digest.
+use crate::digest::sha_256;
+ghost use mathlib.Core.Path.{_≡_};
+ghost use Prim.Native.Nat.{_+_, _≤_};
+ghost use lib.ListN.{length};
+ghost use Rattle.words.specs.Lists.{part};
+ghost use Rattle.signature.specs.Signed.{blockBytes, listed, signed};
+
+const BLOCK_BYTES: usize = 4096;
+
+const DIGEST_BYTES: usize = 32;
+
+fn is_listed(d: [u8; 32], golden: &[u8]) -> bool
+    ensures { λ r. ⌜ r ≡ listed d (now (golden .entry)) ⌝ }
+{
+    let n = golden.len() / DIGEST_BYTES;
+    let mut found = false;
+    'search: for k in 0..n {
+        let a = DIGEST_BYTES * k;
+        for j in 0..DIGEST_BYTES {
+            if d[j] != golden[a + j] {
+                continue 'search;
+            }
+        }
+        found = true;
+        break 'search;
+    }
+    found
+}
+
+pub fn is_signed(block: &[u8], golden: &[u8]) -> bool
+    ensures { λ r. ⌜ r ≡ signed (now (block .entry)) (now (golden .entry)) ⌝ }
+{
+    is_listed(sha_256(block), golden)
+}
+
+// The block of the memory that starts at byte a is signed.
+pub fn is_signed_at(memory: &[u8], a: usize, golden: &[u8]) -> bool
+    requires { ⌜ a + blockBytes ≤ length (now memory) ⌝ }
+    ensures { λ r. ⌜ r ≡ signed (part (now (memory .entry)) a blockBytes) (now (golden .entry)) ⌝ }
+{
+    let e = a + BLOCK_BYTES;
+    is_signed(&memory[a..e], golden)
+}

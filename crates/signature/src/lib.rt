@@ -1,0 +1,29 @@
+// The signature of a block: SHA-256 (FIPS 180-4), and the search of a golden image.
+mod compress;
+mod constants;
+pub mod digest;
+mod functions;
+pub mod golden;
+mod padding;
+mod schedule;
+
+ghost use mathlib.Core.Path.{_≡_};
+ghost use Rattle.signature.specs.Sha256.{sha256};
+ghost use Rattle.signature.specs.Signed.{signed};
+
+// For C and Rust: the digest of a message.
+#[no_mangle]
+pub extern "C" fn signature_sha256(message: &[u8], digest: &mut [u8; 32])
+    ensures { λ r. ⌜ now (digest .exit) ≡ sha256 (now (message .entry)) ⌝ }
+{
+    let d = digest::sha_256(message);
+    *digest = d;
+}
+
+// For C and Rust: is the block's digest among those of the golden image?
+#[no_mangle]
+pub extern "C" fn signature_is_signed(block: &[u8], golden: &[u8]) -> bool
+    ensures { λ r. ⌜ r ≡ signed (now (block .entry)) (now (golden .entry)) ⌝ }
+{
+    golden::is_signed(block, golden)
+}
