@@ -1,0 +1,3 @@
+pub mod Cases
+pub mod Decoding
+pub mod RoundTrip

@@ -1,0 +1,12 @@
+-- `entries::decode::may_write` meets its contract: it makes the test of the definition.
+use mathlib.Core.Path.{refl}
+use Rattle.entries.specs.Rights.{mayWrite}
+use Rattle.entries.proofs.decode.may_write.Statement.{statement}
+use Rattle.entries.proofs.decode.may_write.Tie as tie
+
+returns : tie.Need-returns
+unfolding mayWrite
+returns c = refl
+
+pub may-write-spec : {M : Type 1} → statement M
+may-write-spec = tie.close (tie.spec returns)

@@ -1,0 +1,16 @@
+-- `entries::decode::number` meets its contract: both cases are clauses of the definition.
+use Rattle.words.specs.Bounded.{num}
+use native.Mathlib.Omega.{arith}
+use Rattle.entries.proofs.decode.number.Statement.{statement}
+use Rattle.entries.proofs.decode.number.Tie as tie
+
+returns : tie.Need-returns
+unfolding num
+returns c = (rw (c .if1 .taken), omega arith)
+
+returns-2 : tie.Need-returns-2
+unfolding num
+returns-2 c = (rw (c .if1 .left), omega arith)
+
+pub number-spec : {M : Type 1} → statement M
+number-spec = tie.close (tie.spec returns returns-2)

@@ -1,0 +1,4 @@
+pub mod Entries
+pub mod Meaning
+pub mod Rights
+pub mod Written

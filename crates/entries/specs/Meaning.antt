@@ -1,0 +1,17 @@
+-- What the code's values mean: "where an answer is an enum, a definition gives this paper's number and values for each of the enum's cases".
+use Rattle.entries.specs.declared.entry.Entry as entry
+use Rattle.entries.specs.declared.entry.Entry.the-variants.{Fault, Unaccepted, Link, Section, Page}
+use Rattle.entries.specs.declared.entry.Level as level
+use Rattle.entries.specs.declared.entry.Level.the-variants.{L1, L2}
+use Rattle.entries.specs.Entries.{Entry, fault, unaccepted, link, section, page, Level, l1, l2}
+
+abbrev pub meaning : entry.Entry → Entry
+meaning Fault = fault
+meaning Unaccepted = unaccepted
+meaning (Link p) = link p
+meaning (Section m) = section (m .first) (m .rights)
+meaning (Page m) = page (m .first) (m .rights)
+
+abbrev pub levelOf : level.Level → Level
+levelOf L1 = l1
+levelOf L2 = l2

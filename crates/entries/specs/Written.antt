@@ -1,0 +1,57 @@
+-- The words that the monitor writes ("Entries"): place, access bits and memory kind.
+use mathlib.Core.Bool.{cond}
+use mathlib.Core.Path.{_≡_}
+use Prim.Native.Nat.{ℕ, _+_, _-_, _*_, _%_, _^_, _<_}
+use lib.Dec.{eqb}
+use Rattle.words.specs.Words.{bits}
+use Rattle.entries.specs.Entries.{Entry, fault, unaccepted, link, section, page, Level, l1, l2}
+
+-- a memory kind is B, C, TEX (3 bits), S and nG from bit 0 on; C and B are set in every word of the list below
+abbrev pub cacheable : ℕ
+cacheable = 0b11
+
+-- the access bits written: AP 011 for write, 010 for read, 001 for neither; XN unless execute
+abbrev pub writtenAP : ℕ → ℕ
+writtenAP r = cond (eqb (bits r 1 1) 1) 0b011 (cond (eqb (bits r 0 1) 1) 0b010 0b001)
+
+abbrev pub writtenXN : ℕ → ℕ
+writtenXN r = 1 - bits r 2 1
+
+-- "Low bits written, hexadecimal, for rights 0, 1, 3, 5: page 01F, 02F, 03F, 02E; section 41E, 81E, C1E, 80E"
+unfoldable pub pageBits : ℕ → ℕ → ℕ
+pageBits kind r = 2 ^ 2 * bits kind 0 2 + 2 ^ 6 * bits kind 2 3 + 2 ^ 10 * bits kind 5 2 + 2 ^ 4 * writtenAP r + 2 + writtenXN r
+
+unfoldable pub sectionBits : ℕ → ℕ → ℕ
+sectionBits kind r = 2 ^ 2 * bits kind 0 2 + 2 ^ 12 * bits kind 2 3 + 2 ^ 16 * bits kind 5 2 + 2 ^ 10 * writtenAP r + 2 ^ 4 * writtenXN r + 2
+
+-- the word that is written for an entry: place and low bits; "a link is the table's address + 1"; unmap writes 0
+unfoldable pub wordOf : ℕ → Entry → ℕ
+wordOf kind fault = 0
+wordOf kind unaccepted = 0
+wordOf kind (link p) = 2 ^ 10 * p + 1
+wordOf kind (section b r) = 2 ^ 12 * b + sectionBits kind r
+wordOf kind (page b r) = 2 ^ 12 * b + pageBits kind r
+
+-- places of 32-bit physical addresses: of a block, of a section by its first block, of an L2 table by its 1 KiB place
+abbrev pub IsBlock : ℕ → Type 0
+IsBlock b = b < 2 ^ 20
+
+abbrev pub IsSectionStart : ℕ → Type 0
+IsSectionStart b = (b < 2 ^ 20) × (b % 256 ≡ 0)
+
+abbrev pub IsTablePlace : ℕ → Type 0
+IsTablePlace p = p < 2 ^ 22
+
+-- the rights for which low bits are listed: "for rights 0, 1, 3, 5"
+pub data Grantable : ℕ → Type 0 where
+  none : Grantable 0
+  read : Grantable 1
+  readWrite : Grantable 3
+  readExecute : Grantable 5
+
+-- what an accepted map, link or unmap leaves at its index, at each level
+pub data Encodable : Level → Entry → Type 0 where
+  a-fault : {v : Level} → Encodable v fault
+  a-link : {p : ℕ} → IsTablePlace p → Encodable l1 (link p)
+  a-section : {b r : ℕ} → IsSectionStart b → Grantable r → Encodable l1 (section b r)
+  a-page : {b r : ℕ} → IsBlock b → Grantable r → Encodable l2 (page b r)

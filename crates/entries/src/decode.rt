@@ -1,0 +1,193 @@
+// What a word of a table means: ARMv7-A short descriptors in the accepted forms.
+use crate::entry::BLOCKS_OF_A_SECTION;
+use crate::entry::EXECUTE;
+use crate::entry::Entry;
+use crate::entry::Level;
+use crate::entry::Mapping;
+use crate::entry::READ;
+use crate::entry::WRITE;
+use crate::table::rights_at;
+use words::WORD_SIZE;
+ghost use mathlib.Core.Path.{_≡_};
+ghost use Prim.Native.Nat.{_+_, _*_, _<_};
+ghost use Rattle.words.specs.Bounded.{num};
+ghost use Rattle.words.specs.Words.{bits};
+ghost use Rattle.entries.specs.Rights.{mayRead, mayWrite, mayExecute, rightsOf};
+ghost use Rattle.entries.specs.Entries.{
+  HoldsWord,
+  entryAt,
+  isLinkForm,
+  isSectionForm,
+  l1,
+  l1Entry,
+  l2,
+  l2Entry,
+  sectionAP,
+  sectionXN,
+  sectionZeros,
+};
+ghost use Rattle.entries.specs.Meaning.{levelOf, meaning};
+
+const FAULT_FORM: u32 = 0b00;
+
+const LINK_FORM: u32 = 0b01;
+
+const SECTION_FORM: u32 = 0b10;
+
+const UNACCEPTED_AP: u32 = 0b100;
+
+// Page rights: 0 is a fault, 7 not accepted, and from 8 on the rights are added.
+const FAULT: u8 = 0;
+
+const ACCEPTED: u8 = 8;
+
+// "AP 010, 110 and 111 let the guest read; 011 read and write; 000, 001 and 101 nothing"
+fn may_read(ap: u32) -> bool
+    ensures { λ r. ⌜ r ≡ mayRead ap ⌝ }
+{
+    match ap {
+        0b010 => true,
+        0b110 => true,
+        0b111 => true,
+        0b011 => true,
+        _ => false,
+    }
+}
+
+fn may_write(ap: u32) -> bool
+    ensures { λ r. ⌜ r ≡ mayWrite ap ⌝ }
+{
+    ap == 0b011
+}
+
+// "Execute needs read and XN = 0"
+fn may_execute(ap: u32, xn: u32) -> bool
+    ensures { λ r. ⌜ r ≡ mayExecute ap xn ⌝ }
+{
+    may_read(ap) && xn == 0
+}
+
+fn number(right: bool) -> u32
+    ensures { λ r. ⌜ (r ≡ num right) × (r < 2) ⌝ }
+{
+    if right { 1 } else { 0 }
+}
+
+// 1 (read) + 2 (write) + 4 (execute)
+fn rights_of(ap: u32, xn: u32) -> u32
+    ensures { λ r. ⌜ r ≡ rightsOf ap xn ⌝ }
+{
+    READ * number(may_read(ap))
+        + WRITE * number(may_write(ap))
+        + EXECUTE * number(may_execute(ap, xn))
+}
+
+// "AP = bits 15, 11, 10"
+fn section_ap(w: u32) -> u32
+    ensures { λ r. ⌜ r ≡ sectionAP w ⌝ }
+{
+    4 * words::bits(w, 15, 1) + words::bits(w, 10, 2)
+}
+
+// "XN = bit 4"
+fn section_xn(w: u32) -> u32
+    ensures { λ r. ⌜ r ≡ sectionXN w ⌝ }
+{
+    words::bits(w, 4, 1)
+}
+
+// "L1 01: link, bits 9..2 zero"
+fn is_link_form(w: u32) -> bool
+    ensures { λ r. ⌜ r ≡ isLinkForm w ⌝ }
+{
+    words::bits(w, 0, 2) == LINK_FORM && words::bits(w, 2, 8) == 0
+}
+
+// "bits 19, 18, 9 and 8..5 zero"
+fn has_section_zeros(w: u32) -> bool
+    ensures { λ r. ⌜ r ≡ sectionZeros w ⌝ }
+{
+    words::bits(w, 18, 2) == 0 && words::bits(w, 5, 5) == 0
+}
+
+// "L1 10: section", and not AP 100
+fn is_section_form(w: u32) -> bool
+    ensures { λ r. ⌜ r ≡ isSectionForm w ⌝ }
+{
+    if words::bits(w, 0, 2) != SECTION_FORM {
+        return false;
+    }
+    if !has_section_zeros(w) {
+        return false;
+    }
+    section_ap(w) != UNACCEPTED_AP
+}
+
+// The first block and the rights of a section.
+fn section_mapping(w: u32) -> Mapping
+    ensures { λ r. ⌜ (r .first ≡ 256 * bits w 20 12) × (r .rights ≡ rightsOf (sectionAP w) (sectionXN w)) ⌝ }
+{
+    let rights = rights_of(section_ap(w), section_xn(w));
+    Mapping {
+        first: BLOCKS_OF_A_SECTION * words::bits(w, 20, 12),
+        rights,
+    }
+}
+
+fn l1_entry(w: u32) -> Entry
+    ensures { λ r. ⌜ meaning r ≡ l1Entry w ⌝ }
+{
+    if words::bits(w, 0, 2) == FAULT_FORM {
+        return Entry::Fault;
+    }
+    if is_link_form(w) {
+        return Entry::Link(words::bits(w, 10, 22));
+    }
+    if is_section_form(w) {
+        return Entry::Section(section_mapping(w));
+    }
+    Entry::Unaccepted
+}
+
+fn l2_entry(w: u32) -> Entry
+    ensures { λ r. ⌜ meaning r ≡ l2Entry w ⌝ }
+{
+    let code = rights_at(words::bits(w, 0, 10) as usize);
+    if code == FAULT {
+        return Entry::Fault;
+    }
+    if code < ACCEPTED {
+        return Entry::Unaccepted;
+    }
+    Entry::Page(Mapping {
+        first: words::bits(w, 12, 20),
+        rights: (code - ACCEPTED) as u32,
+    })
+}
+
+// Word j of the memory, read as an entry of an L1 table.
+pub fn l1_entry_at(mem: &[u8], j: usize) -> Entry
+    requires { ⌜ HoldsWord (now mem) j ⌝ }
+    ensures { λ r. ⌜ meaning r ≡ entryAt l1 (now (mem .entry)) j ⌝ }
+{
+    l1_entry(words::word(mem, WORD_SIZE * j))
+}
+
+// Word j of the memory, read as an entry of an L2 table.
+pub fn l2_entry_at(mem: &[u8], j: usize) -> Entry
+    requires { ⌜ HoldsWord (now mem) j ⌝ }
+    ensures { λ r. ⌜ meaning r ≡ entryAt l2 (now (mem .entry)) j ⌝ }
+{
+    l2_entry(words::word(mem, WORD_SIZE * j))
+}
+
+// Word j of the memory, read as an entry of a table of this level.
+pub fn entry_at(level: Level, mem: &[u8], j: usize) -> Entry
+    requires { ⌜ HoldsWord (now mem) j ⌝ }
+    ensures { λ r. ⌜ meaning r ≡ entryAt (levelOf level) (now (mem .entry)) j ⌝ }
+{
+    match level {
+        Level::L1 => l1_entry_at(mem, j),
+        Level::L2 => l2_entry_at(mem, j),
+    }
+}

@@ -1,0 +1,118 @@
+// The words that are written: place, access bits and memory kind.
+ghost use mathlib.Core.Path.{_≡_};
+ghost use Prim.Native.Nat.{ℕ, _<_, _^_};
+ghost use Rattle.entries.specs.Entries.{link, page, section};
+ghost use Rattle.entries.specs.Written.{
+  IsBlock,
+  IsSectionStart,
+  IsTablePlace,
+  pageBits,
+  sectionBits,
+  wordOf,
+  writtenAP,
+  writtenXN,
+};
+
+// The memory kind of all that is written: C and B set.
+pub const CACHEABLE: u32 = 0b11;
+
+const READ_WRITE_AP: u32 = 0b011;
+
+const READ_AP: u32 = 0b010;
+
+const NOTHING_AP: u32 = 0b001;
+
+// Bits 1..0 of each form.
+const LINK: u32 = 0b01;
+
+const SECTION: u32 = 0b10;
+
+const PAGE: u32 = 0b10;
+
+// The lowest bit of each field. B and C, the bits of TEX, and S and nG stand side by side.
+const B: u32 = 0x4;
+
+const PAGE_AP: u32 = 0x10;
+
+const PAGE_TEX: u32 = 0x40;
+
+const PAGE_S: u32 = 0x400;
+
+const SECTION_XN: u32 = 0x10;
+
+const SECTION_AP: u32 = 0x400;
+
+const SECTION_TEX: u32 = 0x1000;
+
+const SECTION_S: u32 = 0x10000;
+
+const BLOCK_SIZE: u32 = 4096;
+
+const TABLE_SIZE: u32 = 1024;
+
+// The access bits for rights in a call: bit 9 of a page's AP and bit 15 of a section's stay clear.
+fn written_ap(rights: u32) -> u32
+    ensures { λ r. ⌜ (r ≡ writtenAP rights) × (r < 4) ⌝ }
+{
+    if words::bits(rights, 1, 1) == 1 {
+        return READ_WRITE_AP;
+    }
+    if words::bits(rights, 0, 1) == 1 {
+        return READ_AP;
+    }
+    NOTHING_AP
+}
+
+fn written_xn(rights: u32) -> u32
+    ensures { λ r. ⌜ (r ≡ writtenXN rights) × (r < 2) ⌝ }
+{
+    1 - words::bits(rights, 2, 1)
+}
+
+// The low bits of a page's word.
+fn page_bits(kind: u32, rights: u32) -> u32
+    ensures { λ r. ⌜ (r ≡ pageBits kind rights) × (r < 2 ^ 12) ⌝ }
+{
+    B * words::bits(kind, 0, 2)
+        + PAGE_TEX * words::bits(kind, 2, 3)
+        + PAGE_S * words::bits(kind, 5, 2)
+        + PAGE_AP * written_ap(rights)
+        + PAGE
+        + written_xn(rights)
+}
+
+// The low bits of a section's word.
+fn section_bits(kind: u32, rights: u32) -> u32
+    ensures { λ r. ⌜ (r ≡ sectionBits kind rights) × (r < 2 ^ 18) ⌝ }
+{
+    B * words::bits(kind, 0, 2)
+        + SECTION_TEX * words::bits(kind, 2, 3)
+        + SECTION_S * words::bits(kind, 5, 2)
+        + SECTION_AP * written_ap(rights)
+        + SECTION_XN * written_xn(rights)
+        + SECTION
+}
+
+// The word of a page at a block.
+pub fn page_word(kind: u32, block: u32, rights: u32) -> u32
+    requires { ⌜ IsBlock block ⌝ }
+    ensures { λ r. ⌜ r ≡ wordOf kind (page block rights) ⌝ }
+{
+    BLOCK_SIZE * block + page_bits(kind, rights)
+}
+
+// The word of a section that starts at a block.
+pub fn section_word(kind: u32, block: u32, rights: u32) -> u32
+    requires { ⌜ IsSectionStart block ⌝ }
+    ensures { λ r. ⌜ r ≡ wordOf kind (section block rights) ⌝ }
+{
+    BLOCK_SIZE * block + section_bits(kind, rights)
+}
+
+// The word of a link to an L2 table: "the table's address + 1".
+pub fn link_word(place: u32) -> u32
+    requires { ⌜ IsTablePlace place ⌝ }
+    ensures { λ r. ⌜ ((kind : ℕ) → r ≡ wordOf kind (link place)) ⌝ }
+{
+    TABLE_SIZE * place + LINK
+}

@@ -1,0 +1,122 @@
+// "An entry is a fault, a link, a section or a page, and the last two carry a record of rights."
+ghost use mathlib.Core.Path.{_≡_};
+ghost use Rattle.entries.specs.Entries.{isFault, isUnaccepted, isLink, rights, first, size, covers};
+ghost use Rattle.entries.specs.Meaning.{meaning};
+
+// The first block of a section or a page, and what the guest may do there.
+pub struct Mapping {
+    pub first: u32,
+    pub rights: u32,
+}
+
+pub enum Entry {
+    Fault,
+    // Not of an accepted form.
+    Unaccepted,
+    // The 1 KiB place of an L2 table.
+    Link(u32),
+    Section(Mapping),
+    Page(Mapping),
+}
+
+// The level of a table.
+pub enum Level {
+    L1,
+    L2,
+}
+
+// Rights are a sum of these.
+pub const READ: u32 = 1;
+
+pub const WRITE: u32 = 2;
+
+pub const EXECUTE: u32 = 4;
+
+pub const TABLES_OF_A_BLOCK: u32 = 4;
+
+pub const BLOCKS_OF_A_SECTION: u32 = 256;
+
+pub fn is_fault(e: Entry) -> bool
+    ensures { λ r. ⌜ r ≡ isFault (meaning e) ⌝ }
+{
+    match e {
+        Entry::Fault => true,
+        Entry::Unaccepted => false,
+        Entry::Link(_) => false,
+        Entry::Section(_) => false,
+        Entry::Page(_) => false,
+    }
+}
+
+pub fn is_unaccepted(e: Entry) -> bool
+    ensures { λ r. ⌜ r ≡ isUnaccepted (meaning e) ⌝ }
+{
+    match e {
+        Entry::Fault => false,
+        Entry::Unaccepted => true,
+        Entry::Link(_) => false,
+        Entry::Section(_) => false,
+        Entry::Page(_) => false,
+    }
+}
+
+pub fn is_link(e: Entry) -> bool
+    ensures { λ r. ⌜ r ≡ isLink (meaning e) ⌝ }
+{
+    match e {
+        Entry::Fault => false,
+        Entry::Unaccepted => false,
+        Entry::Link(_) => true,
+        Entry::Section(_) => false,
+        Entry::Page(_) => false,
+    }
+}
+
+pub fn rights(e: Entry) -> u32
+    ensures { λ r. ⌜ r ≡ rights (meaning e) ⌝ }
+{
+    match e {
+        Entry::Fault => 0,
+        Entry::Unaccepted => 0,
+        Entry::Link(_) => 0,
+        Entry::Section(m) => m.rights,
+        Entry::Page(m) => m.rights,
+    }
+}
+
+// The first block of the entry's place.
+pub fn first(e: Entry) -> u32
+    ensures { λ r. ⌜ r ≡ first (meaning e) ⌝ }
+{
+    match e {
+        Entry::Fault => 0,
+        Entry::Unaccepted => 0,
+        Entry::Link(place) => place / TABLES_OF_A_BLOCK,
+        Entry::Section(m) => m.first,
+        Entry::Page(m) => m.first,
+    }
+}
+
+// The number of blocks of the entry's place.
+pub fn size(e: Entry) -> u32
+    ensures { λ r. ⌜ r ≡ size (meaning e) ⌝ }
+{
+    match e {
+        Entry::Fault => 0,
+        Entry::Unaccepted => 0,
+        Entry::Link(_) => 1,
+        Entry::Section(_) => BLOCKS_OF_A_SECTION,
+        Entry::Page(_) => 1,
+    }
+}
+
+// The entry leads to the block, or lets the guest reach it.
+pub fn covers(e: Entry, block: u32) -> bool
+    ensures { λ r. ⌜ r ≡ covers (meaning e) block ⌝ }
+{
+    let start = first(e);
+    if block < start {
+        return false;
+    }
+    block - start < size(e)
+}
