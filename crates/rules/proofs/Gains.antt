@@ -1,0 +1,83 @@
+-- Laws of what entries give: a gain is a count over entries, a fault gives nothing, and a part gives no more than the whole.
+use mathlib.Core.Bool.{true, false, false≢true}
+use mathlib.Core.Path.{_≡_, refl, sym, _∙_, ap}
+use Prim.Native.Nat.{ℕ, _+_, _-_, _<_, _≤_}
+use native.Mathlib.Numerals.{add-one}
+use native.Mathlib.Omega.{arith}
+use borrow.Author.Tests.{lt-ltb, ltb-true, leb-true}
+use lib.Dec.{leb, ltb}
+use Rattle.words.specs.Bounded.{above, any, sum, num}
+use Rattle.words.proofs.Bounded.{any-found, and-true-left, and-true-right}
+use Rattle.words.proofs.Sums.{sum-same, sum-cut, sum-window, count-most, count-hit, count-none, count-any}
+use Rattle.entries.specs.Entries.{Entry, fault, unaccepted, link, section, page, isFault, isLink, rights, first, size, covers}
+use Rattle.rules.specs.Store.{Counter, writable, executable, linked}
+use Rattle.rules.specs.Tables.{allows, grants, gives, gain}
+
+pub fault-is : (e : Entry) → isFault e ≡ true → e ≡ fault
+unfolding isFault
+fault-is fault h = refl
+fault-is unaccepted h = absurd (false≢true h)
+fault-is (link p) h = absurd (false≢true h)
+fault-is (section b r) h = absurd (false≢true h)
+fault-is (page b r) h = absurd (false≢true h)
+
+pub gives-fault : (c : Counter) (p : ℕ) → gives c fault p ≡ false
+unfolding gives grants allows rights isLink
+gives-fault writable p = refl
+gives-fault executable p = refl
+gives-fault linked p = refl
+
+-- a block that is given something lies in the entry's place
+pub gives-within : (c : Counter) (e : Entry) (p : ℕ) → gives c e p ≡ true → (grants c e ≡ true) × (first e ≤ p) × (p < first e + size e)
+unfolding gives covers
+gives-within c e p h =
+    let t = and-true-right (grants c e) (covers e p) h in (
+      and-true-left (grants c e) (covers e p) h,
+      leb-true (first e) p (and-true-left (leb (first e) p) (ltb p (first e + size e)) t),
+      ltb-true p (first e + size e) (and-true-right (leb (first e) p) (ltb p (first e + size e)) t),
+    )
+
+module _ (m : ℕ) (e : ℕ → Entry) (c : Counter) (p : ℕ) where
+  pub gain-most : gain m e c p ≤ m
+  unfolding gain
+  gain-most = count-most (λ i. gives c (e i) p) m
+
+  -- one entry more
+  pub gain-more : gain (m + 1) e c p ≡ gain m e c p + num (gives c (e m) p)
+  unfolding gain sum
+  gain-more = rw (add-one m) refl
+
+  -- some entry gives exactly if there is a gain
+  pub gain-any : above (gain m e c p) 0 ≡ any m (λ i. gives c (e i) p)
+  unfolding gain
+  gain-any = count-any (λ i. gives c (e i) p) m
+
+  pub gain-hit : (i : ℕ) → i < m → gives c (e i) p ≡ true → 0 < gain m e c p
+  unfolding gain
+  gain-hit = count-hit (λ i. gives c (e i) p) m
+
+  pub gain-none : ((i : ℕ) → i < m → gives c (e i) p ≡ false) → gain m e c p ≡ 0
+  unfolding gain
+  gain-none = count-none (λ i. gives c (e i) p) m
+
+  pub gain-found : 0 < gain m e c p → (i : ℕ) × (i < m) × (gives c (e i) p ≡ true)
+  unfolding gain
+  gain-found h = any-found (λ i. gives c (e i) p) m (sym gain-any ∙ lt-ltb 0 (gain m e c p) h)
+
+  pub gain-same : (d : ℕ → Entry) → ((i : ℕ) → i < m → e i ≡ d i) → gain m e c p ≡ gain m d c p
+  unfolding gain
+  gain-same d h = sum-same (λ i. num (gives c (e i) p)) (λ i. num (gives c (d i) p)) m (λ i l. ap (λ (x : Entry). num (gives c x p)) (h i l))
+
+  -- a window of the entries
+  pub gain-part : (a k : ℕ) → a + k ≤ m → gain k (λ i. e (a + i)) c p ≤ gain m e c p
+  unfolding gain
+  gain-part a k h =
+      let f : ℕ → ℕ = λ i. num (gives c (e i) p) in
+      let n : m ≡ a + k + (m - (a + k)) = omega arith in
+      rw n (omega (arith, sum-cut f (a + k) (m - (a + k)), sum-cut f a k))
+
+  pub gain-window : (d : ℕ → Entry) (a k : ℕ) → a + k ≤ m → ((i : ℕ) → i < m → (a ≤ i → a + k ≤ i) → e i ≡ d i)
+      → gain m e c p + gain k (λ i. d (a + i)) c p ≡ gain m d c p + gain k (λ i. e (a + i)) c p
+  unfolding gain
+  gain-window d a k h same =
+      sum-window (λ i. num (gives c (e i) p)) (λ i. num (gives c (d i) p)) m a k h (λ i l o. ap (λ (x : Entry). num (gives c x p)) (same i l o))

@@ -1,0 +1,228 @@
+-- Map runs on: the target is in the region, of the type that it needs, not both writable and executable, signed if it is to be executed,
+-- and not the block into which the entry is written.
+use mathlib.Core.List.{List}
+use mathlib.Core.Bool.{Bool, true, false, not, _&&_, _||_, and-false, false≢true}
+use mathlib.Core.Path.{_≡_, refl, sym, _∙_}
+use Prim.Native.Nat.{ℕ, zero, suc, _+_, _%_, _^_, _<_, _≤_}
+use native.Mathlib.Omega.{arith}
+use lib.Dec.{leb, ltb}
+use borrow.Author.Tests.{lt-ltb, le-leb, ltb-false, not-false}
+use Rattle.words.specs.Bounded.{above, neqb}
+use Rattle.words.proofs.Bounded.{false-unless, or-false-left, or-false-right, and-false-right}
+use Rattle.entries.specs.Entries.{Entry, isUnaccepted, isLink, rights, first, size}
+use Rattle.entries.specs.Written.{Grantable, none, read, readWrite, readExecute, Encodable, a-section, a-page}
+use Rattle.rules.specs.Store.{Store, blocks, base, recordWord, Counter, writable, executable, linked, counterPlace, counter, typeOf, outside, someBlock}
+use Rattle.rules.specs.Signature.{certified}
+use Rattle.rules.specs.Tables.{typeD, code, Form, sections, pages, level, covered, alignment, words, mapping, allows, grants, gives, astray}
+use Rattle.rules.specs.Tables as tables
+use Rattle.rules.specs.General.{tableOutside, beyondTable, otherType, executableHolder, occupied, holder, added, someOverrun, entered}
+use Rattle.rules.specs.Map.{unlawfulRights, unfitTarget, clashingTarget, unsignedTarget, mapRefusals, mapOutcome}
+use Rattle.rules.specs.Steps.{maps, Told, told}
+use Rattle.rules.proofs.Refusals.{Passed, front, now, rest}
+use Rattle.rules.proofs.Gains.{gives-within}
+use Rattle.rules.proofs.Consistent.{Suits, Sound}
+use Rattle.rules.proofs.State.{Fit, fits, Running, equal, within, no-block-at, type-told, Next, next-13}
+use Rattle.rules.proofs.Changes.{counter-none}
+use Rattle.rules.proofs.Edits.{slot, one-word, Harmless, enters}
+
+-- the rights that pass 9 and are not both write and execute
+grantable : (r : ℕ) → unlawfulRights r ≡ false → (allows r tables.write && allows r tables.execute) ≡ false → Grantable r
+unfolding unlawfulRights allows
+grantable zero t u = none
+grantable (suc zero) t u = read
+grantable (suc (suc zero)) t u = absurd (false≢true (sym t))
+grantable (suc (suc (suc zero))) t u = readWrite
+grantable (suc (suc (suc (suc zero)))) t u = absurd (false≢true (sym t))
+grantable (suc (suc (suc (suc (suc zero))))) t u = readExecute
+grantable (suc (suc (suc (suc (suc (suc zero)))))) t u = absurd (false≢true (sym t))
+grantable (suc (suc (suc (suc (suc (suc (suc zero))))))) t u = absurd (false≢true (sym u))
+grantable (suc (suc (suc (suc (suc (suc (suc (suc r)))))))) t u =
+    let n = suc (suc (suc (suc (suc (suc (suc (suc r))))))) in
+    let z : ⊥ = omega (arith, ltb-false 7 n (or-false-left (above n 7) (not (allows n tables.read) && (allows n tables.write || allows n tables.execute)) t)) in
+    absurd z
+
+covered-above : (f : Form) → 0 < covered f
+covered-above sections = omega arith
+covered-above pages = omega arith
+
+-- the entry that is mapped
+module _ (t r : ℕ) where
+  mapping-encodable : (f : Form) → t < 2 ^ 20 → t % alignment f ≡ 0 → Grantable r → Encodable (level f) (mapping f t r)
+  mapping-encodable sections l a g = a-section (l, a) g
+  mapping-encodable pages l a g = a-page l g
+
+  mapping-grants : (f : Form) → (grants writable (mapping f t r) ≡ allows r tables.write) × (grants executable (mapping f t r) ≡ allows r tables.execute) × (grants linked (mapping f t r) ≡ false)
+  unfolding grants rights isLink
+  mapping-grants sections = (refl, refl, refl)
+  mapping-grants pages = (refl, refl, refl)
+
+  mapping-place : (f : Form) → (first (mapping f t r) ≡ t) × (size (mapping f t r) ≡ covered f) × (isUnaccepted (mapping f t r) ≡ false)
+  unfolding first size isUnaccepted
+  mapping-place sections = (refl, refl, refl)
+  mapping-place pages = (refl, refl, refl)
+
+  -- a block that is given something is a block of the target
+  mapping-gives : (f : Form) (c : Counter) (q : ℕ) → gives c (mapping f t r) q ≡ true → (t ≤ q) × (q < t + covered f)
+  mapping-gives f c q g =
+      let (_, lo, hi) = gives-within c (mapping f t r) q g in
+      let (start, length, _) = mapping-place f in
+      (omega arith, omega arith)
+
+-- What the tests of a map tell, whatever the store
+
+module _ (f : Form) (golden : List ℕ) (s : Store) (p i t q : ℕ) where
+  abbrev pub writes : Bool
+  writes = allows q tables.write
+
+  abbrev pub executes : Bool
+  executes = allows q tables.execute
+
+  abbrev pub over : (ℕ → Bool) → Bool
+  over = someBlock t (covered f)
+
+  abbrev pub notD : ℕ → Bool
+  notD b = neqb (typeOf s b) typeD
+
+  abbrev pub counts : Counter → ℕ → Bool
+  counts c b = above (counter c s b) 0
+
+  -- 10 does not apply
+  pub record Fitting : Type 0 where
+    pub in-region : outside (base s) (blocks s) t (covered f) ≡ false
+    pub data-only : writes ≡ true → over notD ≡ false
+    pub not-holder : executes ≡ true → t ≤ holder p i → holder p i < t + covered f → ⊥
+
+  fitting : unfitTarget f s p i t q ≡ false → Fitting
+  unfolding unfitTarget
+  fitting e =
+      let out = outside (base s) (blocks s) t (covered f) in
+      let written = writes && over notD in
+      let own = executes && leb t (holder p i) && ltb (holder p i) (t + covered f) in
+      let e′ = or-false-left (out || written) own e in
+      record {
+        in-region = or-false-left out written e′;
+        data-only = and-false-right writes (over notD) (or-false-right out written e′);
+        not-holder = λ y lo hi.
+            let is : own ≡ true = rw (y, le-leb t (holder p i) lo, lt-ltb (holder p i) (t + covered f) hi) refl in
+            false≢true (sym (or-false-right (out || written) own e) ∙ is);
+      }
+
+  -- 11 does not apply
+  pub record Alone : Type 0 where
+    pub not-both : (writes && executes) ≡ false
+    pub unexecuted : writes ≡ true → over (counts executable) ≡ false
+    pub unwritten : executes ≡ true → over (counts writable) ≡ false
+
+  alone : clashingTarget f s t q ≡ false → Alone
+  unfolding clashingTarget
+  alone e =
+      let both = writes && executes in
+      let on-executable = writes && over (counts executable) in
+      let on-writable = executes && over (counts writable) in
+      let e′ = or-false-left (both || on-executable) on-writable e in
+      record {
+        not-both = or-false-left both on-executable e′;
+        unexecuted = and-false-right writes (over (counts executable)) (or-false-right both on-executable e′);
+        unwritten = and-false-right executes (over (counts writable)) (or-false-right (both || on-executable) on-writable e);
+      }
+
+  pub target-inside : Fitting → astray (base s) (blocks s) (mapping f t q) ≡ false
+  unfolding astray
+  target-inside fit = let (start, length, _) = mapping-place t q f in rw (start, length, fit .in-region) (and-false (above (covered f) 0))
+
+  -- what passed the tests: the table and the index, the target, the rights
+  pub record Mappable : Type 0 where
+    pub region : Fit (base s) (blocks s) s
+    pub table-inside : tableOutside (level f) s p ≡ false
+    pub index-inside : beyondTable (level f) i ≡ false
+    pub typed : otherType (level f) s p (code (level f)) ≡ false
+    pub unexecuted-holder : executableHolder s p i ≡ false
+    pub free : occupied (level f) s p i (words f) ≡ false
+    pub fits-target : Fitting
+    pub apart : Alone
+    pub signed : unsignedTarget f golden s t q ≡ false
+    pub written : Encodable (level f) (mapping f t q)
+
+  pub mappable : Passed (front (mapRefusals f golden s p i t q)) → Mappable
+  mappable t1 =
+      let t2 = rest (rest t1) in
+      let t3 = rest (rest t2) in
+      let t4 = rest t3 in
+      let t5 = rest t4 in
+      let t7 = rest t5 in
+      let t8 = rest t7 in
+      let t9 = rest t8 in
+      let t10 = rest t9 in
+      let t11 = rest t10 in
+      let fit = fitting (now t10) in
+      let apart = alone (now t11) in
+      let region = fits s (base s) (now t1) in
+      let (low, high) = within (base s) (blocks s) t (covered f) (fit .in-region) in
+      record {
+        region = region;
+        table-inside = now t2;
+        index-inside = now t4;
+        typed = now t5;
+        unexecuted-holder = now t7;
+        free = now t8;
+        fits-target = fit;
+        apart = apart;
+        signed = now (rest t11);
+        written = mapping-encodable t q f (omega (arith, covered-above f)) (equal (t % alignment f) 0 (now t3)) (grantable q (now t9) (apart .not-both));
+      }
+
+-- Map
+
+module _ (f : Form) (p i t q : ℕ) {h : Told} {s : Store} (r : Running h s) (can : Mappable f (h .golden) s p i t q) where
+  abbrev x : Entry
+  x = mapping f t q
+
+  -- what the entry gives, and to which block
+  given : (c : Counter) (b : ℕ) → gives c x (base s + b) ≡ true → (grants c x ≡ true) × (t ≤ base s + b) × (base s + b < t + covered f)
+  given c b g = let (lo, hi) = mapping-gives t q f c (base s + b) g in (gives-within c x (base s + b) g .0, lo, hi)
+
+  -- a counter of a block of the target
+  no-count : (c : Counter) (b : ℕ) → someBlock t (covered f) (λ a. above (counter c s a) 0) ≡ false → t ≤ base s + b → base s + b < t + covered f
+      → recordWord (s .ledger) (counterPlace c) b ≡ 0
+  no-count c b e lo hi = counter-none c s b (no-block-at t (covered f) (λ a. above (counter c s a) 0) e (base s + b) lo hi)
+
+  map-sound : Sound (base s) (blocks s) (λ b. h .types (base s + b)) x
+  map-sound = record { accepted = mapping-place t q f .2; inside = target-inside f (h .golden) s p i t q (can .fits-target); suits = suits } where
+    suits : (c : Counter) (b : ℕ) → b < blocks s → gives c x (base s + b) ≡ true → Suits c (h .types (base s + b))
+    suits writable b l g =
+        let (grant, lo, hi) = given writable b g in
+        let is = no-block-at t (covered f) (λ a. neqb (typeOf s a) typeD) (can .fits-target .data-only (sym (mapping-grants t q f .0) ∙ grant)) (base s + b) lo hi in
+        sym (type-told r (base s + b) (omega arith) (omega arith)) ∙ equal (typeOf s (base s + b)) typeD is
+    suits executable b l g = tt
+    suits linked b l g = absurd (false≢true (sym (mapping-grants t q f .2) ∙ given linked b g .0))
+
+  map-harmless : Harmless h s p i x
+  unfolding unsignedTarget
+  map-harmless =
+      let (write-is, execute-is, _) = mapping-grants t q f in
+      let unsigned : ℕ → Bool = λ b. not (certified (h .golden) (base s) (s .memory) b) in
+      record {
+        write-alone = λ b l g.
+            let (grant, lo, hi) = given writable b g in
+            let w = sym write-is ∙ grant in
+            (execute-is ∙ and-false-right (allows q tables.write) (allows q tables.execute) (can .apart .not-both) w, no-count executable b (can .apart .unexecuted w) lo hi);
+        execute-alone = λ b l g. let (grant, lo, hi) = given executable b g in no-count writable b (can .apart .unwritten (sym execute-is ∙ grant)) lo hi;
+        signs = λ b l g.
+            let (grant, lo, hi) = given executable b g in
+            let none = and-false-right (allows q tables.execute) (someBlock t (covered f) unsigned) (can .signed) (sym execute-is ∙ grant) in
+            not-false (certified (h .golden) (base s) (s .memory) (base s + b)) (no-block-at t (covered f) unsigned none (base s + b) lo hi);
+        spares-holder = false-unless (gives executable x (holder p i)) (λ g.
+            let (lo, hi) = mapping-gives t q f executable (holder p i) g in
+            can .fits-target .not-holder (sym execute-is ∙ gives-within executable x (holder p i) g .0) lo hi);
+      }
+
+  mapped : (someOverrun added s (words f) (λ k. x) ≡ false) × Running h (entered s p i (words f) x)
+  mapped =
+      let sl = slot r (level f) p i (words f) (one-word f) (can .table-inside) (can .index-inside) (can .typed) (can .unexecuted-holder) in
+      enters r (level f) p i (words f) sl x map-harmless (can .written) (can .free) map-sound
+
+pub map-next : (f : Form) (p i t q : ℕ) {h : Told} {s : Store} → Running h s → Next h (maps f p i t q) (mapOutcome f (h .golden) s p i t q)
+unfolding mapOutcome told
+map-next f p i t q {h} {s} r =
+    next-13 (maps f p i t q) (entered s p i (words f) (mapping f t q)) (mapRefusals f (h .golden) s p i t q) r (omega arith) (omega arith) (omega arith)
+    (λ tests. mapped f p i t q r (mappable f (h .golden) s p i t q tests))

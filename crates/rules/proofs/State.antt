@@ -1,0 +1,185 @@
+-- The invariant of every list of steps, and what it says at a moment: the ledger has what the steps told, and tables and counters agree.
+use mathlib.Core.Bool.{Bool, false, _||_}
+use mathlib.Core.List.{List}
+use mathlib.Core.Logic.{_≢_}
+use mathlib.Core.Option.{Option, none, some}
+use mathlib.Core.Path.{_≡_, refl, sym, _∙_, ap, subst, subst₂}
+use Prim.Native.Nat.{ℕ, zero, suc, _+_, _-_, _*_, _/_, _%_, _<_, _≤_}
+use native.Mathlib.Omega.{arith}
+use lib.ListN.{length}
+use borrow.Author.Tests.{ltb-false, eqb-true, not-false}
+use lib.Dec.{eqb}
+use Rattle.words.specs.Bounded.{above, neqb}
+use Rattle.words.proofs.Bounded.{or-false-left, or-false-right, any-none}
+use Rattle.entries.specs.Entries.{Entry, Level, l1}
+use Rattle.rules.specs.Store.{blockBytes, blockWords, least, most, baseAlignment, physicalBlocks, head, width, noTable, Store, blocks, base, active, recordWord, typePlace, Counter, writable, executable, linked, counterPlace, someCounter, typeOf, outside, someBlock, misfit, Outcome, settle}
+use Rattle.rules.specs.Refusals.{Refusal, answerOf}
+use Rattle.rules.specs.Signature.{certified}
+use Rattle.rules.specs.Tables.{code, tableBlocks, typedEntry}
+use Rattle.rules.specs.General.{tableOutside, otherType}
+use Rattle.rules.specs.Steps.{Step, Told, told, heard, afresh}
+use Rattle.rules.specs.Demand3.{Safe}
+use Rattle.rules.proofs.Refusals.{Passed, Avoids, front, lastTest, passed, passed-front, avoided, last-avoided}
+use Rattle.rules.proofs.Consistent.{Consistent}
+
+-- refusal 1 does not apply: n blocks from B on
+pub record Fit (B n : ℕ) (s : Store) : Type 0 where
+  pub memory-length : length (s .memory) ≡ blockBytes * n
+  pub ledger-length : length (s .ledger) ≡ head + width * n
+  pub at-least : least ≤ n
+  pub at-most : n ≤ most
+  pub aligned : B % baseAlignment ≡ 0
+  pub physical : B + n ≤ physicalBlocks
+
+pub equal : (a b : ℕ) → neqb a b ≡ false → a ≡ b
+equal a b e = eqb-true a b (not-false (eqb a b) e)
+
+pub fits : (s : Store) (B : ℕ) → misfit s B ≡ false → Fit B (blocks s) s
+unfolding misfit
+fits s B e =
+    let t1 = neqb (length (s .memory) % blockBytes) 0 in
+    let t2 = above least (blocks s) in
+    let t3 = above (blocks s) most in
+    let t4 = neqb (length (s .ledger)) (head + width * blocks s) in
+    let t5 = neqb (B % baseAlignment) 0 in
+    let t6 = above (B + blocks s) physicalBlocks in
+    let e5 = or-false-left (t1 || t2 || t3 || t4 || t5) t6 e in
+    let e4 = or-false-left (t1 || t2 || t3 || t4) t5 e5 in
+    let e3 = or-false-left (t1 || t2 || t3) t4 e4 in
+    let e2 = or-false-left (t1 || t2) t3 e3 in
+    let whole = equal (length (s .memory) % blockBytes) 0 (or-false-left t1 t2 e2) in
+    record {
+      memory-length = omega arith;
+      ledger-length = equal (length (s .ledger)) (head + width * blocks s) (or-false-right (t1 || t2 || t3) t4 e4);
+      at-least = ltb-false (blocks s) least (or-false-right t1 t2 e2);
+      at-most = ltb-false most (blocks s) (or-false-right (t1 || t2) t3 e3);
+      aligned = equal (B % baseAlignment) 0 (or-false-right (t1 || t2 || t3 || t4) t5 e5);
+      physical = ltb-false physicalBlocks (B + blocks s) (or-false-right (t1 || t2 || t3 || t4 || t5) t6 e);
+    }
+
+pub fit-same : {B n : ℕ} {s : Store} (after : Store) → Fit B n s → length (after .memory) ≡ length (s .memory) → length (after .ledger) ≡ length (s .ledger) → Fit B n after
+fit-same after f m l =
+    record { memory-length = m ∙ f .memory-length; ledger-length = l ∙ f .ledger-length; at-least = f .at-least; at-most = f .at-most; aligned = f .aligned; physical = f .physical }
+
+-- the active word that the last accepted switch left
+abbrev pub activeWord : Option ℕ → ℕ
+activeWord none = noTable
+activeWord (some p) = p
+
+-- an L1 table in the region
+pub record Root (B n : ℕ) (types : ℕ → ℕ) (p : ℕ) : Type 0 where
+  pub low : B ≤ p
+  pub high : p + tableBlocks l1 ≤ B + n
+  pub aligned : p % tableBlocks l1 ≡ 0
+  pub typed : (i : ℕ) → i < tableBlocks l1 → types (p + i) ≡ code l1
+
+-- word j of the memory as an entry, by the tables that the steps told
+abbrev pub entryOf : ℕ → Told → List ℕ → ℕ → Entry
+entryOf B h memory j = typedEntry (h .types (B + j / blockWords)) memory j
+
+-- the type of block b, whether it is signed, and its counters
+abbrev pub typeAt : ℕ → Told → ℕ → ℕ
+typeAt B h b = h .types (B + b)
+
+abbrev pub sealed : ℕ → Told → List ℕ → ℕ → Bool
+sealed B h memory b = certified (h .golden) B memory (B + b)
+
+abbrev pub recorded : Store → Counter → ℕ → ℕ
+recorded s c b = recordWord (s .ledger) (counterPlace c) b
+
+pub record Inv (B n : ℕ) (h : Told) (s : Store) : Type 0 where
+  pub told-base : h .B ≡ B
+  pub fit : Fit B n s
+  pub base-is : base s ≡ B
+  pub active-is : active s ≡ activeWord (h .table)
+  pub types-are : (b : ℕ) → b < n → recordWord (s .ledger) typePlace b ≡ typeAt B h b
+  pub root : (p : ℕ) → h .table ≡ some p → Root B n (h .types) p
+  pub consistent : Consistent B n (typeAt B h) (entryOf B h (s .memory)) (sealed B h (s .memory)) (recorded s)
+
+abbrev pub Running : Told → Store → Type 0
+Running h s = Inv (base s) (blocks s) h s
+
+module _ {B n : ℕ} {h : Told} {s : Store} (i : Inv B n h s) where
+  pub blocks-are : blocks s ≡ n
+  blocks-are = let f = i .fit .memory-length in omega arith
+
+  pub running : Running h s
+  running = subst₂ (λ b m. Inv b m h s) (sym (i .base-is)) (sym blocks-are) i
+
+-- the invariant says what demand 3 says of a moment
+pub safe : {h : Told} {s : Store} → Running h s → Safe h s
+unfolding afresh
+safe {h} {s} r = told-safe (subst (λ b. Inv b (blocks s) h s) (sym (r .told-base)) r) where
+  told-safe : Inv (h .B) (blocks s) h s → Safe h s
+  told-safe i =
+      let k = i .consistent in
+      record {
+        exclusive = λ b l w x. omega (arith, k .exclusive b l (rw (k .counts-are writable b l) w), k .counts-are executable b l);
+        signs = λ b l x. k .signs b l (rw (k .counts-are executable b l) x);
+        honest = λ c b l. k .counts-are c b l;
+      }
+
+-- What the tests of a call tell
+
+pub within : (B n p m : ℕ) → outside B n p m ≡ false → (B ≤ p) × (p + m ≤ B + n)
+unfolding outside
+within B n p m e =
+    (ltb-false p B (or-false-left (above B p) (above (p + m) (B + n)) e), ltb-false (B + n) (p + m) (or-false-right (above B p) (above (p + m) (B + n)) e))
+
+pub no-block : (p m : ℕ) (q : ℕ → Bool) → someBlock p m q ≡ false → (k : ℕ) → k < m → q (p + k) ≡ false
+unfolding someBlock
+no-block p m q e k l = any-none (λ i. q (p + i)) m e k l
+
+-- the same, for a block between the first and the last
+pub no-block-at : (p m : ℕ) (q : ℕ → Bool) → someBlock p m q ≡ false → (b : ℕ) → p ≤ b → b < p + m → q b ≡ false
+no-block-at p m q e b lo hi = let i : p + (b - p) ≡ b = omega arith in rw i at (no-block p m q e (b - p) (omega arith))
+
+pub no-counter : (q : Counter → Bool) → someCounter q ≡ false → (c : Counter) → q c ≡ false
+unfolding someCounter
+no-counter q e writable = or-false-left (q writable) (q executable) (or-false-left (q writable || q executable) (q linked) e)
+no-counter q e executable = or-false-right (q writable) (q executable) (or-false-left (q writable || q executable) (q linked) e)
+no-counter q e linked = or-false-right (q writable || q executable) (q linked) e
+
+module _ {h : Told} {s : Store} (r : Running h s) where
+  -- the ledger's types are those told
+  pub type-told : (p : ℕ) → base s ≤ p → p < base s + blocks s → typeOf s p ≡ h .types p
+  type-told p lo hi = let e : base s + (p - base s) ≡ p = omega arith in r .types-are (p - base s) (omega arith) ∙ ap (h .types) e
+
+  -- 2 and 5 do not apply
+  pub types-told : (v : Level) (p t : ℕ) → tableOutside v s p ≡ false → otherType v s p t ≡ false → (k : ℕ) → k < tableBlocks v → h .types (p + k) ≡ t
+  types-told v p t o e k l =
+      let (lo, hi) = within (base s) (blocks s) p (tableBlocks v) o in
+      sym (type-told (p + k) (omega arith) (omega arith)) ∙ equal (typeOf s (p + k)) t (no-block p (tableBlocks v) (λ b. neqb (typeOf s b) t) e k l)
+
+-- One step
+
+-- a step from a running state: neither 13 nor 24, and it runs on
+pub record Next (h : Told) (step : Step) (o : Outcome) : Type 0 where
+  pub not-13 : o .answer ≢ 13
+  pub not-24 : o .answer ≢ 24
+  pub runs : Running (heard (o .answer) h step) (o .after)
+
+-- an accepted call leaves and tells what it says, a refused one nothing
+pub next : {h : Told} {s : Store} (step : Step) (after : Store) (k byte : ℕ) → Running h s → k ≢ 13 → k ≢ 24 → (k ≡ 0 → Running (told h step) after)
+    → Next h step (settle k s after byte)
+unfolding heard settle
+next step after zero byte r n13 n24 new = record { not-13 = n13; not-24 = n24; runs = new refl }
+next step after (suc k) byte r n13 n24 new = record { not-13 = n13; not-24 = n24; runs = r }
+
+-- the same for a call whose last refusal is 13, which does not arise where the others do not
+pub next-13 : {h : Told} {s : Store} (step : Step) (after : Store) (rs : List Refusal) → Running h s → Avoids 0 rs → Avoids 13 (front rs) → Avoids 24 rs
+    → (Passed (front rs) → (lastTest rs ≡ false) × Running (told h step) after) → Next h step (settle (answerOf rs) s after 0)
+next-13 step after rs r n0 n13 n24 new =
+    next step after (answerOf rs) 0 r (last-avoided 13 rs (λ e. omega arith) n13 (λ t. new t .0)) (avoided 24 rs (λ e. omega arith) n24)
+    (λ e. new (passed-front rs (passed rs n0 e)) .1)
+
+-- an accepted call leaves the new store and gives its byte
+pub settle-keeps : (P : Store → Type 0) (s after : Store) (k byte : ℕ) → P s → (k ≡ 0 → P after) → P (settle k s after byte .after)
+unfolding settle
+settle-keeps P s after zero byte old new = new refl
+settle-keeps P s after (suc k) byte old new = old
+
+pub settle-accepted : (s after : Store) (k byte : ℕ) → settle k s after byte .answer ≡ 0 → (k ≡ 0) × (settle k s after byte .after ≡ after) × (settle k s after byte .byte ≡ byte)
+unfolding settle
+settle-accepted s after zero byte e = (refl, refl, refl)
+settle-accepted s after (suc k) byte e = let z : ⊥ = omega arith in absurd z

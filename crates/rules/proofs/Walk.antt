@@ -1,0 +1,122 @@
+-- A walk from a table never meets an entry that is not accepted or leads outside, since the tables' entries are sound, and ends at an entry
+-- of the tables that covers the block it ends in.
+use mathlib.Core.Bool.{Bool, true, false, cond, false≢true}
+use mathlib.Core.Path.{_≡_, refl, sym, ap}
+use Prim.Native.Nat.{ℕ, _+_, _-_, _*_, _/_, _%_, _^_, _<_, _≤_}
+use native.Mathlib.Nat.{mod-lt}
+use native.Mathlib.Omega.{arith}
+use borrow.Author.Tests.{lt-ltb, le-leb}
+use Rattle.words.specs.Words.{bits}
+use Rattle.entries.specs.Entries.{Entry, fault, unaccepted, link, section, page, Level, l1, l2, entryAt, isFault, isUnaccepted, isLink, rights, first, size, covers}
+use Rattle.words.proofs.Fields.{bits-bound}
+use Rattle.rules.specs.Store.{blockBytes, blockWords, Store, blocks, base, linked}
+use Rattle.rules.specs.Tables.{gives, grants, astray, blockTables, l2Words}
+use Rattle.rules.specs.Guest.{Walk, stops, ends, passes, endsAt, secondEntry, follow, walk}
+use Rattle.rules.specs.Steps.{Told}
+use Rattle.rules.proofs.Consistent.{Sound}
+use Rattle.rules.proofs.State.{within, entryOf, Root, Running}
+use Rattle.rules.proofs.Tables.{word-block, entryOf-table}
+
+-- an entry of the tables covers block p and has rights r
+pub record Reached (B n : ℕ) (E : ℕ → Entry) (p r : ℕ) : Type 0 where
+  pub word : ℕ
+  pub in-memory : word < blockWords * n
+  pub has : rights (E word) ≡ r
+  pub reaches : covers (E word) p ≡ true
+  pub low : B ≤ p
+  pub high : p < B + n
+
+-- a walk stops at a fault only, and ends at an entry of the tables
+abbrev pub Sensible : ℕ → ℕ → (ℕ → Entry) → Walk → Type 0
+Sensible B n E (stops v k) = k ≡ 22
+Sensible B n E (ends v p r) = Reached B n E p r
+
+pub size-above : (e : Entry) → isUnaccepted e ≡ false → isFault e ≡ false → 0 < size e
+unfolding isUnaccepted isFault size
+size-above fault u f = absurd (false≢true (sym f))
+size-above unaccepted u f = absurd (false≢true (sym u))
+size-above (link p) u f = omega arith
+size-above (section b r) u f = omega arith
+size-above (page b r) u f = omega arith
+
+-- an entry that is no fault has its place in the region
+pub place-within : (B n : ℕ) (e : Entry) → 0 < size e → astray B n e ≡ false → (B ≤ first e) × (first e + size e ≤ B + n)
+unfolding astray
+place-within B n e z a = within B n (first e) (size e) (rw (lt-ltb 0 (size e) z) at a)
+
+module _ (B n : ℕ) (K : ℕ → ℕ) (E : ℕ → Entry) where
+  -- at an entry of the tables
+  at-entry : (v : Level) (onward : Walk) (e : Entry) → Sound B n K e → (isFault e ≡ false → Sensible B n E onward) → Sensible B n E (passes v B n e onward)
+  unfolding passes
+  at-entry v onward e s o = rw (s .accepted, s .inside) (go (isFault e) refl) where
+    go : (t : Bool) → isFault e ≡ t → Sensible B n E (cond t (stops v 22) onward)
+    go true f = refl
+    go false f = o f
+
+  -- a walk's end
+  at-end : (v : Level) (addr j : ℕ) (e : Entry) → E j ≡ e → j < blockWords * n → Sound B n K e → isFault e ≡ false → Sensible B n E (endsAt v addr e)
+  unfolding covers
+  at-end v addr j e q l s f =
+      let z = size-above e (s .accepted) f in
+      let (low, high) = place-within B n e z (s .inside) in
+      let m : addr / blockBytes % size e < size e = mod-lt (addr / blockBytes) z in
+      let p = first e + addr / blockBytes % size e in
+      record {
+        word = j;
+        in-memory = l;
+        has = ap rights q;
+        reaches = rw (q, le-leb (first e) p (omega arith), lt-ltb p (first e + size e) (omega arith)) refl;
+        low = omega arith;
+        high = omega arith;
+      }
+
+module _ {h : Told} {s : Store} (r : Running h s) (addr : ℕ) where
+  abbrev tables : ℕ → Entry
+  tables = entryOf (base s) h (s .memory)
+
+  abbrev types : ℕ → ℕ
+  types b = h .types (base s + b)
+
+  abbrev Good : Walk → Type 0
+  Good = Sensible (base s) (blocks s) tables
+
+  -- through a link: it leads to an L2 block, whose entries are sound
+  through-link : (place : ℕ) → Sound (base s) (blocks s) types (link place)
+      → Good (passes l2 (base s) (blocks s) (secondEntry (base s) (s .memory) addr place) (endsAt l2 addr (secondEntry (base s) (s .memory) addr place)))
+  unfolding size first gives grants isLink covers
+  through-link place sound =
+      let (low, high) = place-within (base s) (blocks s) (link place) (omega arith) (sound .inside) in
+      let b = place / 4 - base s in
+      let j = l2Words * (place - blockTables * base s) + bits addr 12 8 in
+      let in-block : base s + j / blockWords ≡ base s + b = omega arith in
+      let inside : j < blockWords * blocks s = omega arith in
+      let leads : gives linked (link place) (base s + b) ≡ true =
+      rw (le-leb (place / 4) (base s + b) (omega arith), lt-ltb (base s + b) (place / 4 + 1) (omega arith)) refl in
+      let e = entryAt l2 (s .memory) j in
+      let is : tables j ≡ e = entryOf-table (base s) h (s .memory) j (base s + b) in-block l2 (sound .suits linked b (omega arith) leads) in
+      let good : Sound (base s) (blocks s) types e = rw is at (r .consistent .sound j inside) in
+      at-entry (base s) (blocks s) types tables l2 (endsAt l2 addr e) e good (at-end (base s) (blocks s) types tables l2 addr j e is inside good)
+
+  onward : (j : ℕ) (e : Entry) → tables j ≡ e → j < blockWords * blocks s → Sound (base s) (blocks s) types e → isFault e ≡ false
+      → Good (follow (base s) (blocks s) (s .memory) addr e)
+  unfolding follow
+  onward j fault q l g f = at-end (base s) (blocks s) types tables l1 addr j fault q l g f
+  onward j unaccepted q l g f = at-end (base s) (blocks s) types tables l1 addr j unaccepted q l g f
+  onward j (link place) q l g f = through-link place g
+  onward j (section b w) q l g f = at-end (base s) (blocks s) types tables l1 addr j (section b w) q l g f
+  onward j (page b w) q l g f = at-end (base s) (blocks s) types tables l1 addr j (page b w) q l g f
+
+  -- a walk from an L1 table
+  pub walk-sensible : (p : ℕ) → Root (base s) (blocks s) (h .types) p → Good (walk (base s) (blocks s) (s .memory) p addr)
+  unfolding walk
+  walk-sensible p root =
+      let i = bits addr 20 12 in
+      let j = blockWords * (p - base s) + i in
+      let low = root .low in
+      let high = root .high in
+      let small : i < 2 ^ 12 = bits-bound addr 20 12 in
+      let inside : j < blockWords * blocks s = omega arith in
+      let e = entryAt l1 (s .memory) j in
+      let is : tables j ≡ e = entryOf-table (base s) h (s .memory) j (p + i / blockWords) (word-block (base s) p i low) l1 (root .typed (i / blockWords) (omega arith)) in
+      let good : Sound (base s) (blocks s) types e = rw is at (r .consistent .sound j inside) in
+      at-entry (base s) (blocks s) types tables l1 (follow (base s) (blocks s) (s .memory) addr e) e good (onward j e is inside good)

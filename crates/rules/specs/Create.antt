@@ -1,0 +1,60 @@
+-- Create L1, create L2 of a block: "Types and counters change, memory doesn't" ("Calls").
+use mathlib.Core.Bool.{Bool, not, _&&_, _||_}
+use mathlib.Core.List.{List, [], _∷_}
+use Prim.Native.Nat.{ℕ, _+_, _-_}
+use lib.Dec.{leb, ltb}
+use Rattle.words.specs.Bounded.{above, neqb, any}
+use Rattle.entries.specs.Entries.{Entry, Level, l2, isUnaccepted, isLink, first, size}
+use Rattle.rules.specs.Refusals.{Refusal, _if_, answerOf}
+use Rattle.rules.specs.Store.{Store, blocks, base, writable, executable, someCounter, typeOf, counter, retype, someBlock, someRegionBlock, misfit, Outcome, settle}
+use Rattle.rules.specs.Signature.{misfitImage, certified}
+use Rattle.rules.specs.Tables.{typeD, code, tableBlocks, entries, tableEntry, grants, gain, astray}
+use Rattle.rules.specs.General.{tableOutside, misaligned, otherType, someOverrun, recounted, added}
+
+-- "6 if any counter of its blocks is above 0"
+unfoldable pub someCount : Level → Store → ℕ → Bool
+someCount v s p = someBlock p (tableBlocks v) (λ b. someCounter (λ c. above (counter c s b) 0))
+
+-- "10 if some entry's place is not wholly in the region, a link's block isn't L2, or a writable target isn't D or is one of the blocks being typed"
+unfoldable pub misplaced : Level → Store → ℕ → Entry → Bool
+misplaced v s p e =
+    astray (base s) (blocks s) e
+    || isLink e && someBlock (first e) (size e) (λ b. neqb (typeOf s b) (code l2))
+    || grants writable e && someBlock (first e) (size e) (λ b. neqb (typeOf s b) typeD || leb p b && ltb b (p + tableBlocks v))
+
+-- "11 if a block that a new entry makes writable or executable would end with w and x both above 0": w, x, and what the new entries add to them
+unfoldable pub clash : ℕ → ℕ → ℕ → ℕ → Bool
+clash w x moreW moreX = (above moreW 0 || above moreX 0) && above (w + moreW) 0 && above (x + moreX) 0
+
+-- block b clashes, for m new entries e
+abbrev pub clashes : Store → ℕ → (ℕ → Entry) → ℕ → Bool
+clashes s m e b = clash (counter writable s b) (counter executable s b) (gain m e writable b) (gain m e executable b)
+
+-- "12 if some executable target is unsigned"
+abbrev pub unsigned : List ℕ → Store → ℕ → (ℕ → Entry) → ℕ → Bool
+unsigned golden s m e b = above (gain m e executable b) 0 && not (certified golden (base s) (s .memory) b)
+
+-- "1; 2; 3 (L1); 5 unless D; 6 ..; 8 if some entry isn't of an accepted form; 10 ..; 11 ..; 12 ..; 13"
+abbrev pub createRefusals : Level → List ℕ → Store → ℕ → List Refusal
+createRefusals v golden s p =
+    1 if misfit s (base s)
+    ∷ 1 if misfitImage golden
+    ∷ 2 if tableOutside v s p
+    ∷ 3 if misaligned p (tableBlocks v)
+    ∷ 5 if otherType v s p typeD
+    ∷ 6 if someCount v s p
+    ∷ 8 if any (entries v) (λ i. isUnaccepted (tableEntry v s p i))
+    ∷ 10 if any (entries v) (λ i. misplaced v s p (tableEntry v s p i))
+    ∷ 11 if someRegionBlock s (clashes s (entries v) (tableEntry v s p))
+    ∷ 12 if someRegionBlock s (unsigned golden s (entries v) (tableEntry v s p))
+    ∷ 13 if someOverrun added s (entries v) (tableEntry v s p)
+    ∷ []
+
+-- "Types and counters change, memory doesn't"
+abbrev pub createAfter : Level → Store → ℕ → Store
+createAfter v s p =
+    record { memory = s .memory; ledger = retype (recounted added s (entries v) (tableEntry v s p)) (p - base s) (tableBlocks v) (code v) }
+
+-- what create answers and leaves
+unfoldable pub createOutcome : Level → List ℕ → Store → ℕ → Outcome
+createOutcome v golden s p = settle (answerOf (createRefusals v golden s p)) s (createAfter v s p) 0

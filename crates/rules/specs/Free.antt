@@ -1,0 +1,38 @@
+-- Free L1, free L2 of a block: "The type becomes D, the counters lose its entries, the bytes remain" ("Calls").
+use mathlib.Core.Bool.{Bool}
+use mathlib.Core.List.{List, [], _∷_}
+use Prim.Native.Nat.{ℕ, _-_}
+use lib.Dec.{eqb}
+use Rattle.words.specs.Bounded.{above, any}
+use Rattle.entries.specs.Entries.{Level, l1, l2, isUnaccepted}
+use Rattle.rules.specs.Refusals.{Refusal, _if_, answerOf}
+use Rattle.rules.specs.Store.{Store, blocks, base, active, linked, counter, retype, misfit, Outcome, settle}
+use Rattle.rules.specs.Tables.{typeD, code, tableBlocks, entries, tableEntry, astray}
+use Rattle.rules.specs.General.{tableOutside, misaligned, otherType, someOverrun, recounted, removed}
+
+-- "6 if active (L1) or l above 0 (L2)"
+unfoldable pub inUse : Level → Store → ℕ → Bool
+inUse l1 s p = eqb (active s) p
+inUse l2 s p = above (counter linked s p) 0
+
+-- "1; 2; 3 (L1); 5; 6 ..; 8 and 10 for an unaccepted form or a place outside; 13"
+abbrev pub freeRefusals : Level → Store → ℕ → List Refusal
+freeRefusals v s p =
+    1 if misfit s (base s)
+    ∷ 2 if tableOutside v s p
+    ∷ 3 if misaligned p (tableBlocks v)
+    ∷ 5 if otherType v s p (code v)
+    ∷ 6 if inUse v s p
+    ∷ 8 if any (entries v) (λ i. isUnaccepted (tableEntry v s p i))
+    ∷ 10 if any (entries v) (λ i. astray (base s) (blocks s) (tableEntry v s p i))
+    ∷ 13 if someOverrun removed s (entries v) (tableEntry v s p)
+    ∷ []
+
+-- "The type becomes D, the counters lose its entries, the bytes remain"
+abbrev pub freeAfter : Level → Store → ℕ → Store
+freeAfter v s p =
+    record { memory = s .memory; ledger = retype (recounted removed s (entries v) (tableEntry v s p)) (p - base s) (tableBlocks v) typeD }
+
+-- what free answers and leaves
+unfoldable pub freeOutcome : Level → Store → ℕ → Outcome
+freeOutcome v s p = settle (answerOf (freeRefusals v s p)) s (freeAfter v s p) 0

@@ -1,0 +1,15 @@
+pub mod Refusals
+pub mod Store
+pub mod Signature
+pub mod Tables
+pub mod General
+pub mod Begin
+pub mod Create
+pub mod Free
+pub mod Map
+pub mod Link
+pub mod Unmap
+pub mod Switch
+pub mod Guest
+pub mod Steps
+pub mod Demand3

@@ -1,0 +1,34 @@
+-- Link with L1 block, index, target block, table ("Calls").
+use mathlib.Core.List.{List, [], _∷_}
+use Prim.Native.Nat.{ℕ, _+_, _*_}
+use lib.Dec.{leb}
+use Rattle.words.specs.Bounded.{neqb}
+use Rattle.entries.specs.Entries.{Entry, link, l1, l2}
+use Rattle.rules.specs.Refusals.{Refusal, _if_, answerOf}
+use Rattle.rules.specs.Store.{Store, base, typeOf, misfit, Outcome, settle}
+use Rattle.rules.specs.Tables.{code, tableBlocks, blockTables}
+use Rattle.rules.specs.General.{tableOutside, misaligned, beyondTable, otherType, executableHolder, someOverrun, occupied, entered, added}
+
+-- "A link is the table's address + 1": the link to table j of block t
+abbrev pub linkTo : ℕ → ℕ → Entry
+linkTo t j = link (blockTables * t + j)
+
+-- "1; 2; 3; 4 (also table above 3); 5; 7; 8 unless a fault; 10 unless the target is in the region and L2; 13"
+abbrev pub linkRefusals : Store → ℕ → ℕ → ℕ → ℕ → List Refusal
+linkRefusals s p i t j =
+    1 if misfit s (base s)
+    ∷ 2 if tableOutside l1 s p
+    ∷ 3 if misaligned p (tableBlocks l1)
+    ∷ 4 if beyondTable l1 i
+    ∷ 4 if leb blockTables j
+    ∷ 5 if otherType l1 s p (code l1)
+    ∷ 7 if executableHolder s p i
+    ∷ 8 if occupied l1 s p i 1
+    ∷ 10 if tableOutside l2 s t
+    ∷ 10 if neqb (typeOf s t) (code l2)
+    ∷ 13 if someOverrun added s 1 (λ k. linkTo t j)
+    ∷ []
+
+-- what link answers and leaves
+unfoldable pub linkOutcome : Store → ℕ → ℕ → ℕ → ℕ → Outcome
+linkOutcome s p i t j = settle (answerOf (linkRefusals s p i t j)) s (entered s p i 1 (linkTo t j)) 0

@@ -1,0 +1,56 @@
+-- Map L1 (section), map L2 (page) with block, index, target, rights ("Calls").
+use mathlib.Core.Bool.{Bool, not, _&&_, _||_}
+use mathlib.Core.List.{List, [], _∷_}
+use Prim.Native.Nat.{ℕ, _+_}
+use lib.Dec.{leb, ltb}
+use Rattle.words.specs.Bounded.{above, neqb}
+use Rattle.rules.specs.Refusals.{Refusal, _if_, answerOf}
+use Rattle.rules.specs.Store.{Store, blocks, base, writable, executable, typeOf, counter, outside, someBlock, misfit, Outcome, settle}
+use Rattle.rules.specs.Signature.{misfitImage, certified}
+use Rattle.rules.specs.Tables.{typeD, code, tableBlocks, Form, level, covered, alignment, words, mapping, read, write, execute, allows}
+use Rattle.rules.specs.General.{tableOutside, misaligned, beyondTable, otherType, holder, executableHolder, someOverrun, occupied, entered, added}
+
+-- "9 if rights exceed 7, or hold write or execute without read"
+unfoldable pub unlawfulRights : ℕ → Bool
+unlawfulRights r = above r 7 || not (allows r read) && (allows r write || allows r execute)
+
+-- "10 if the target isn't wholly in the region, is to be written and not D, or is to be executed and includes the holder"
+unfoldable pub unfitTarget : Form → Store → ℕ → ℕ → ℕ → ℕ → Bool
+unfitTarget f s p i t r =
+    outside (base s) (blocks s) t (covered f)
+    || allows r write && someBlock t (covered f) (λ b. neqb (typeOf s b) typeD)
+    || allows r execute && leb t (holder p i) && ltb (holder p i) (t + covered f)
+
+-- "11 if both write and execute, or write onto x above 0, or execute onto w above 0"
+unfoldable pub clashingTarget : Form → Store → ℕ → ℕ → Bool
+clashingTarget f s t r =
+    allows r write && allows r execute
+    || allows r write && someBlock t (covered f) (λ b. above (counter executable s b) 0)
+    || allows r execute && someBlock t (covered f) (λ b. above (counter writable s b) 0)
+
+-- "12 if a block to be executed is unsigned"
+unfoldable pub unsignedTarget : Form → List ℕ → Store → ℕ → ℕ → Bool
+unsignedTarget f golden s t r = allows r execute && someBlock t (covered f) (λ b. not (certified golden (base s) (s .memory) b))
+
+-- "1; 2; 3 (L1, or section target not a multiple of 256); 4; 5; 7; 8 unless the entry is a fault; 9 ..; 10 ..; 11 ..; 12 ..; 13"
+abbrev pub mapRefusals : Form → List ℕ → Store → ℕ → ℕ → ℕ → ℕ → List Refusal
+mapRefusals f golden s p i t r =
+    1 if misfit s (base s)
+    ∷ 1 if misfitImage golden
+    ∷ 2 if tableOutside (level f) s p
+    ∷ 3 if misaligned p (tableBlocks (level f))
+    ∷ 3 if misaligned t (alignment f)
+    ∷ 4 if beyondTable (level f) i
+    ∷ 5 if otherType (level f) s p (code (level f))
+    ∷ 7 if executableHolder s p i
+    ∷ 8 if occupied (level f) s p i (words f)
+    ∷ 9 if unlawfulRights r
+    ∷ 10 if unfitTarget f s p i t r
+    ∷ 11 if clashingTarget f s t r
+    ∷ 12 if unsignedTarget f golden s t r
+    ∷ 13 if someOverrun added s (words f) (λ k. mapping f t r)
+    ∷ []
+
+-- what map answers and leaves
+unfoldable pub mapOutcome : Form → List ℕ → Store → ℕ → ℕ → ℕ → ℕ → Outcome
+mapOutcome f golden s p i t r = settle (answerOf (mapRefusals f golden s p i t r)) s (entered s p i (words f) (mapping f t r)) 0

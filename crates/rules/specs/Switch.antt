@@ -1,0 +1,26 @@
+-- Switch to an L1 block: "Active becomes that block number, nothing else changes" ("Calls").
+use mathlib.Core.List.{List, [], _∷_}
+use Prim.Native.Nat.{ℕ}
+use Rattle.words.specs.Words.{putWord}
+use Rattle.entries.specs.Entries.{l1}
+use Rattle.rules.specs.Refusals.{Refusal, _if_, answerOf}
+use Rattle.rules.specs.Store.{Store, activePlace, base, misfit, Outcome, settle}
+use Rattle.rules.specs.Tables.{code, tableBlocks}
+use Rattle.rules.specs.General.{tableOutside, misaligned, otherType}
+
+-- "1; 2; 3; 5"
+abbrev pub switchRefusals : Store → ℕ → List Refusal
+switchRefusals s p =
+    1 if misfit s (base s)
+    ∷ 2 if tableOutside l1 s p
+    ∷ 3 if misaligned p (tableBlocks l1)
+    ∷ 5 if otherType l1 s p (code l1)
+    ∷ []
+
+-- "Active becomes that block number"
+abbrev pub switchAfter : Store → ℕ → Store
+switchAfter s p = record { memory = s .memory; ledger = putWord (s .ledger) activePlace p }
+
+-- what switch answers and leaves
+unfoldable pub switchOutcome : Store → ℕ → Outcome
+switchOutcome s p = settle (answerOf (switchRefusals s p)) s (switchAfter s p) 0
