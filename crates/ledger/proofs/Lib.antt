@@ -1,0 +1,5 @@
+pub mod Blocks
+pub mod Counting
+pub mod Fits
+pub mod Judge
+pub mod Records

@@ -1,0 +1,45 @@
+-- A ledger is its words: two ledgers of bytes whose words agree are the same.
+use mathlib.Core.List.{List}
+use mathlib.Core.Logic.{⊎-elim}
+use mathlib.Core.Path.{_≡_, sym, _∙_, ap}
+use Prim.Native.Nat.{ℕ, zero, suc, _+_, _-_, _*_, _/_, _%_, _<_, _≤_}
+use native.Mathlib.Omega.{arith}
+use lib.ListN.{length, getD}
+use lib.Seq.{ext-getD}
+use Rattle.words.specs.Words.{bits, word}
+use Rattle.words.proofs.Bounded.{below-or-above}
+use Rattle.words.proofs.Words.{Bytes, getD-putWord-same, putWord-self}
+use Rattle.rules.specs.Store.{head, width, recordWord, typePlace, Counter, writable, executable, linked, counterPlace}
+
+-- a byte is a part of its word
+byte-of-word : (xs : List ℕ) (a k : ℕ) → Bytes xs → k < 4 → a + k < length xs → getD xs (a + k) 0 ≡ bits (word xs a) (8 * k) 8
+byte-of-word xs a k b h l = sym (ap (λ (ys : List ℕ). getD ys (a + k) 0) (putWord-self xs a b)) ∙ getD-putWord-same xs a (word xs a) k h l
+
+words-ext : (xs ys : List ℕ) → length xs ≡ length ys → Bytes xs → Bytes ys → ((j : ℕ) → 4 * j < length xs → word xs (4 * j) ≡ word ys (4 * j)) → xs ≡ ys
+words-ext xs ys n bx by h = ext-getD 0 xs ys n (λ i l. at-byte i (i / 4) (i % 4) l (omega arith) (omega arith)) where
+  at-byte : (i j k : ℕ) → i < length xs → k < 4 → i ≡ 4 * j + k → getD xs i 0 ≡ getD ys i 0
+  at-byte i j k l small e =
+      rw e (byte-of-word xs (4 * j) k bx small (omega arith) ∙ ap (λ (w : ℕ). bits w (8 * k) 8) (h j (omega arith)) ∙ sym (byte-of-word ys (4 * j) k by small (omega arith)))
+
+-- the words of a ledger of n records: those of the head, the types and the counters
+module _ (xs ys : List ℕ) (n : ℕ) (lx : length xs ≡ head + width * n) (ly : length ys ≡ head + width * n) (bx : Bytes xs) (by : Bytes ys)
+    (heads : (a : ℕ) → a + 4 ≤ head → word xs a ≡ word ys a)
+    (types : (b : ℕ) → b < n → recordWord xs typePlace b ≡ recordWord ys typePlace b)
+    (counters : (c : Counter) (b : ℕ) → b < n → recordWord xs (counterPlace c) b ≡ recordWord ys (counterPlace c) b) where
+  in-record : (k b : ℕ) → k < 4 → b < n → recordWord xs k b ≡ recordWord ys k b
+  in-record zero b h l = types b l
+  in-record (suc zero) b h l = counters writable b l
+  in-record (suc (suc zero)) b h l = counters executable b l
+  in-record (suc (suc (suc zero))) b h l = counters linked b l
+  in-record (suc (suc (suc (suc k)))) b h l = let z : ⊥ = omega arith in absurd z
+
+  pub ledger-ext : xs ≡ ys
+  unfolding recordWord
+  ledger-ext = words-ext xs ys (lx ∙ sym ly) bx by at-word where
+    at-word : (j : ℕ) → 4 * j < length xs → word xs (4 * j) ≡ word ys (4 * j)
+    at-word j l =
+        ⊎-elim (λ (h : 4 * j < head). heads (4 * j) (omega arith))
+        (λ (h : head ≤ 4 * j).
+        let e : 4 * j ≡ head + width * ((4 * j - head) / width) + 4 * ((4 * j - head) % width / 4) = omega arith in
+        rw e (in-record ((4 * j - head) % width / 4) ((4 * j - head) / width) (omega arith) (omega arith)))
+        (below-or-above (4 * j) head)

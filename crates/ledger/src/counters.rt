@@ -1,0 +1,170 @@
+// The counters w, x and l: what an entry adds to them, or takes away.
+use crate::layout::COUNTER_LIMIT;
+use crate::layout::EXECUTABLE;
+use crate::layout::LINKED;
+use crate::layout::WRITABLE;
+use crate::layout::base;
+use crate::layout::put_record_word;
+use crate::layout::record_word;
+use crate::rights::Right;
+use crate::rights::allows;
+use entries::entry::Entry;
+ghost use mathlib.Core.Path.{_≡_};
+ghost use mathlib.Core.Bool.{false};
+ghost use Prim.Native.Nat.{ℕ, _+_, _<_};
+ghost use Rattle.words.specs.Bounded.{any};
+ghost use Rattle.entries.specs.Meaning.{meaning};
+ghost use Rattle.rules.specs.Store as store;
+ghost use Rattle.rules.specs.Store.{base as storedBase, blocks, counterPlace, lent, misfit, putRecordWord, recordWord};
+ghost use Rattle.rules.specs.Tables.{astray, grants};
+ghost use Rattle.rules.specs.General.{endValue, overruns, recounted, someOverrun};
+ghost use Rattle.ledger.specs.Records.{InLedger};
+ghost use Rattle.ledger.specs.Counters.{Changeable, Countable, Placed, changeOf, changed, changedCounter, counterOf, counterOverruns};
+
+// An entry is added to the counters, or taken away from them.
+pub enum Change {
+    Added,
+    Removed,
+}
+
+pub enum Counter {
+    Writable,
+    Executable,
+    Linked,
+}
+
+// The counter's word in a record.
+pub fn place(counter: Counter) -> usize
+    ensures { λ r. ⌜ (r ≡ counterPlace (counterOf counter)) × (r < 4) ⌝ }
+{
+    match counter {
+        Counter::Writable => WRITABLE,
+        Counter::Executable => EXECUTABLE,
+        Counter::Linked => LINKED,
+    }
+}
+
+// The entry gives its blocks what the counter counts.
+pub fn grants(counter: Counter, e: Entry) -> bool
+    ensures { λ r. ⌜ r ≡ grants (counterOf counter) (meaning e) ⌝ }
+{
+    match counter {
+        Counter::Writable => allows(entries::entry::rights(e), Right::Write),
+        Counter::Executable => allows(entries::entry::rights(e), Right::Execute),
+        Counter::Linked => entries::entry::is_link(e),
+    }
+}
+
+// A counter would end below 0 or above its limit.
+fn overruns(change: Change, old: u32) -> bool
+    ensures { λ r. ⌜ r ≡ overruns (changeOf change) old 1 ⌝ }
+{
+    match change {
+        Change::Added => COUNTER_LIMIT <= old,
+        Change::Removed => old == 0 || COUNTER_LIMIT < old - 1,
+    }
+}
+
+fn end_value(change: Change, old: u32) -> u32
+    requires { ⌜ Changeable (changeOf change) old ⌝ }
+    ensures { λ r. ⌜ r ≡ endValue (changeOf change) old 1 ⌝ }
+{
+    match change {
+        Change::Added => old + 1,
+        Change::Removed => old - 1,
+    }
+}
+
+// The counter would overrun in some of the m records from block b on.
+fn some_overruns(change: Change, ledger: &[u8], k: usize, b: usize, m: usize) -> bool
+    requires { ⌜ (k < 4) × InLedger (now ledger) (b + m) ⌝ }
+    ensures { λ r. ⌜ r ≡ any m (λ i. overruns (changeOf change) (recordWord (now (ledger .entry)) k (b + i)) 1) ⌝ }
+{
+    for i in 0..m {
+        if overruns(change, record_word(ledger, k, b + i)) {
+            return true;
+        }
+    }
+    false
+}
+
+// Changes word k of block b's record by one.
+fn change_word(change: Change, ledger: &mut [u8], k: usize, b: usize)
+    requires { ⌜ (k < 4) × InLedger (now ledger) (b + 1) × Changeable (changeOf change) (recordWord (now ledger) k b) ⌝ }
+    ensures { λ r. ⌜ now (ledger .exit) ≡ putRecordWord (now (ledger .entry)) k b (endValue (changeOf change) (recordWord (now (ledger .entry)) k b) 1) ⌝ }
+{
+    let old = record_word(ledger, k, b);
+    put_record_word(ledger, k, b, end_value(change, old));
+}
+
+// The same for the m records from block b on.
+fn change_words(change: Change, ledger: &mut [u8], k: usize, b: usize, m: usize)
+    requires { ⌜ (k < 4) × InLedger (now ledger) (b + m) × ((i : ℕ) → i < m → Changeable (changeOf change) (recordWord (now ledger) k (b + i))) ⌝ }
+    ensures { λ r. ⌜ now (ledger .exit) ≡ changed (changeOf change) (now (ledger .entry)) k b m ⌝ }
+{
+    for i in 0..m {
+        change_word(change, ledger, k, b + i);
+    }
+}
+
+// One counter, at each of the entry's blocks, would overrun.
+fn counter_overruns(change: Change, ledger: &[u8], counter: Counter, e: Entry) -> bool
+    requires { ⌜ Placed (now ledger) (meaning e) ⌝ }
+    ensures { λ r. ⌜ r ≡ counterOverruns (changeOf change) (now (ledger .entry)) (counterOf counter) (meaning e) ⌝ }
+{
+    if !grants(counter, e) {
+        return false;
+    }
+    let b = entries::entry::first(e) - base(ledger);
+    some_overruns(
+        change,
+        ledger,
+        place(counter),
+        b as usize,
+        entries::entry::size(e) as usize,
+    )
+}
+
+// Changes one counter at each of the entry's blocks.
+fn change_counter(change: Change, ledger: &mut [u8], counter: Counter, e: Entry)
+    requires { ⌜ Placed (now ledger) (meaning e) × Countable (changeOf change) (now ledger) (counterOf counter) (meaning e) ⌝ }
+    ensures { λ r. ⌜ now (ledger .exit) ≡ changedCounter (changeOf change) (now (ledger .entry)) (counterOf counter) (meaning e) ⌝ }
+{
+    if grants(counter, e) {
+        let b = entries::entry::first(e) - base(ledger);
+        change_words(
+            change,
+            ledger,
+            place(counter),
+            b as usize,
+            entries::entry::size(e) as usize,
+        );
+    }
+}
+
+// Some counter by which the entry counts would overrun. Of the memory only the number of blocks matters.
+pub fn entry_overruns(change: Change, memory: &[u8], ledger: &[u8], e: Entry) -> bool
+    requires { ⌜ misfit (lent (now memory) (now ledger)) (storedBase (lent (now memory) (now ledger))) ≡ false ⌝ }
+    requires { ⌜ astray (storedBase (lent (now memory) (now ledger))) (blocks (lent (now memory) (now ledger))) (meaning e) ≡ false ⌝ }
+    ensures { λ r. ⌜ r ≡ someOverrun (changeOf change) (lent (now (memory .entry)) (now (ledger .entry))) 1 (λ k. meaning e) ⌝ }
+{
+    if counter_overruns(change, ledger, Counter::Writable, e) {
+        return true;
+    }
+    if counter_overruns(change, ledger, Counter::Executable, e) {
+        return true;
+    }
+    counter_overruns(change, ledger, Counter::Linked, e)
+}
+
+// Adds the entry to the counters, or takes it away.
+pub fn change_entry(change: Change, memory: &[u8], ledger: &mut [u8], e: Entry)
+    requires { ⌜ misfit (lent (now memory) (now ledger)) (storedBase (lent (now memory) (now ledger))) ≡ false ⌝ }
+    requires { ⌜ astray (storedBase (lent (now memory) (now ledger))) (blocks (lent (now memory) (now ledger))) (meaning e) ≡ false ⌝ }
+    requires { ⌜ ((c : store.Counter) → Countable (changeOf change) (now ledger) c (meaning e)) ⌝ }
+    ensures { λ r. ⌜ now (ledger .exit) ≡ recounted (changeOf change) (lent (now (memory .entry)) (now (ledger .entry))) 1 (λ k. meaning e) ⌝ }
+{
+    change_counter(change, ledger, Counter::Writable, e);
+    change_counter(change, ledger, Counter::Executable, e);
+    change_counter(change, ledger, Counter::Linked, e);
+}

@@ -1,0 +1,91 @@
+// Where the ledger keeps what, and the limits of a region: "Memory and ledger".
+use words::WORD_SIZE;
+ghost use mathlib.Core.Path.{_≡_};
+ghost use Prim.Native.Nat.{_+_, _*_, _≤_};
+ghost use lib.ListN.{length};
+ghost use Rattle.words.specs.Words.{word, putWord};
+ghost use Rattle.rules.specs.Store.{head, width, basePlace, activePlace, recordWord, putRecordWord};
+
+pub const BLOCK_BYTES: usize = 4096;
+
+pub const BLOCK_WORDS: u32 = 1024;
+
+pub const LEAST_BLOCKS: usize = 8;
+
+pub const MOST_BLOCKS: usize = 4096;
+
+pub const BASE_ALIGNMENT: u32 = 256;
+
+pub const PHYSICAL_BLOCKS: usize = 0x10_0000;
+
+// Bytes before the records, and of a record.
+pub const HEAD: usize = 8;
+
+pub const WIDTH: usize = 16;
+
+const BASE_PLACE: usize = 0;
+
+const ACTIVE_PLACE: usize = 4;
+
+// The words of a record.
+pub const TYPE: usize = 0;
+
+pub const WRITABLE: usize = 1;
+
+pub const EXECUTABLE: usize = 2;
+
+pub const LINKED: usize = 3;
+
+// The types.
+pub const TYPE_D: u32 = 0;
+
+pub const TYPE_L1: u32 = 1;
+
+pub const TYPE_L2: u32 = 2;
+
+pub const NO_TABLE: u32 = 0xFFFF_FFFF;
+
+pub const COUNTER_LIMIT: u32 = 0x40_0000;
+
+pub fn base(ledger: &[u8]) -> u32
+    requires { ⌜ head ≤ length (now ledger) ⌝ }
+    ensures { λ r. ⌜ r ≡ word (now (ledger .entry)) basePlace ⌝ }
+{
+    words::word(ledger, BASE_PLACE)
+}
+
+pub fn active(ledger: &[u8]) -> u32
+    requires { ⌜ head ≤ length (now ledger) ⌝ }
+    ensures { λ r. ⌜ r ≡ word (now (ledger .entry)) activePlace ⌝ }
+{
+    words::word(ledger, ACTIVE_PLACE)
+}
+
+pub fn put_base(ledger: &mut [u8], first: u32)
+    requires { ⌜ head ≤ length (now ledger) ⌝ }
+    ensures { λ r. ⌜ now (ledger .exit) ≡ putWord (now (ledger .entry)) basePlace first ⌝ }
+{
+    words::put_word(ledger, BASE_PLACE, first);
+}
+
+pub fn put_active(ledger: &mut [u8], table: u32)
+    requires { ⌜ head ≤ length (now ledger) ⌝ }
+    ensures { λ r. ⌜ now (ledger .exit) ≡ putWord (now (ledger .entry)) activePlace table ⌝ }
+{
+    words::put_word(ledger, ACTIVE_PLACE, table);
+}
+
+// Word k of the record of block b, b counted from the region's first.
+pub fn record_word(ledger: &[u8], k: usize, b: usize) -> u32
+    requires { ⌜ head + width * b + 4 * k + 4 ≤ length (now ledger) ⌝ }
+    ensures { λ r. ⌜ r ≡ recordWord (now (ledger .entry)) k b ⌝ }
+{
+    words::word(ledger, HEAD + WIDTH * b + WORD_SIZE * k)
+}
+
+pub fn put_record_word(ledger: &mut [u8], k: usize, b: usize, v: u32)
+    requires { ⌜ head + width * b + 4 * k + 4 ≤ length (now ledger) ⌝ }
+    ensures { λ r. ⌜ now (ledger .exit) ≡ putRecordWord (now (ledger .entry)) k b v ⌝ }
+{
+    words::put_word(ledger, HEAD + WIDTH * b + WORD_SIZE * k, v);
+}

@@ -1,0 +1,75 @@
+// A table at a block: where it lies and of which type its blocks are.
+use crate::layout::BLOCK_WORDS;
+use crate::layout::TYPE;
+use crate::layout::TYPE_L1;
+use crate::layout::TYPE_L2;
+use crate::layout::base;
+use crate::refusals::ACCEPTED;
+use crate::refusals::MISALIGNED;
+use crate::refusals::OUTSIDE_REGION;
+use crate::region::blocks;
+use crate::region::is_outside;
+use crate::scan::some_differs;
+use entries::entry::Level;
+ghost use mathlib.Core.Bool.{false};
+ghost use mathlib.Core.List.{[], _∷_};
+ghost use mathlib.Core.Path.{_≡_};
+ghost use Prim.Native.Nat.{_<_, _≤_};
+ghost use Rattle.entries.specs.Meaning.{levelOf};
+ghost use Rattle.rules.specs.General.{misaligned, otherType, tableOutside};
+ghost use Rattle.rules.specs.Refusals.{_if_, answerOf};
+ghost use Rattle.rules.specs.Store.{lent, misfit};
+ghost use Rattle.rules.specs.Store.{base as storedBase};
+ghost use Rattle.rules.specs.Tables.{code, entries, tableBlocks};
+
+pub fn table_blocks(level: Level) -> u32
+    ensures { λ r. ⌜ (r ≡ tableBlocks (levelOf level)) × (0 < r) × (r ≤ 4) ⌝ }
+{
+    match level {
+        Level::L1 => 4,
+        Level::L2 => 1,
+    }
+}
+
+pub fn table_entries(level: Level) -> u32
+    ensures { λ r. ⌜ r ≡ entries (levelOf level) ⌝ }
+{
+    BLOCK_WORDS * table_blocks(level)
+}
+
+pub fn table_type(level: Level) -> u32
+    ensures { λ r. ⌜ r ≡ code (levelOf level) ⌝ }
+{
+    match level {
+        Level::L1 => TYPE_L1,
+        Level::L2 => TYPE_L2,
+    }
+}
+
+// Refusals 2 and 3 of a table at a block.
+pub fn place_refusal(level: Level, memory: &[u8], ledger: &[u8], block: u32) -> u32
+    requires { ⌜ misfit (lent (now memory) (now ledger)) (storedBase (lent (now memory) (now ledger))) ≡ false ⌝ }
+    ensures { λ r. ⌜ r ≡ answerOf
+        (2 if tableOutside (levelOf level) (lent (now (memory .entry)) (now (ledger .entry))) block
+        ∷ 3 if misaligned block (tableBlocks (levelOf level))
+        ∷ []) ⌝ }
+{
+    let m = table_blocks(level);
+    if is_outside(base(ledger), blocks(memory), block, m) {
+        return OUTSIDE_REGION;
+    }
+    if block % m != 0 {
+        return MISALIGNED;
+    }
+    ACCEPTED
+}
+
+// Some block of the table has another type than t.
+pub fn is_other_type(level: Level, memory: &[u8], ledger: &[u8], block: u32, t: u32) -> bool
+    requires { ⌜ misfit (lent (now memory) (now ledger)) (storedBase (lent (now memory) (now ledger))) ≡ false ⌝ }
+    requires { ⌜ tableOutside (levelOf level) (lent (now memory) (now ledger)) block ≡ false ⌝ }
+    ensures { λ r. ⌜ r ≡ otherType (levelOf level) (lent (now (memory .entry)) (now (ledger .entry))) block t ⌝ }
+{
+    let b = (block - base(ledger)) as usize;
+    some_differs(ledger, TYPE, b, table_blocks(level) as usize, t)
+}
