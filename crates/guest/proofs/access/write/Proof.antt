@@ -1,0 +1,17 @@
+-- What follows from the verdict is the rules' outcome.
+use borrow.Author.Needs.{needs}
+use mathlib.Core.Path.{refl}
+use Rattle.rules.specs.Guest.{writes}
+use Rattle.guest.proofs.Verdicts.{in-memory, outcome-is}
+use Rattle.guest.proofs.access.write.Statement.{statement}
+use Rattle.guest.proofs.access.write.Tie as tie
+
+store-requires : tie.Need-store-requires
+store-requires c κs = rw (c .before .judge .ensures) (in-memory _ _ _)
+
+returns : tie.Need-returns
+returns c =
+    let o = outcome-is (writes _) _ _ _ (c .before .before .before .before .judge .ensures) (c .before .before .store .ensures .0) refl (c .before .before .store .ensures .1) in (o .0, o .1 .1)
+
+pub write-spec : {M : Type 1} → statement M
+write-spec = tie.close (tie.spec (search needs) store-requires (search needs) returns)

@@ -1,0 +1,162 @@
+// The guest's accesses: all is judged before the byte is read or stored.
+use crate::walk::Walk;
+use crate::walk::walk_tables;
+use entries::entry::EXECUTE;
+use entries::entry::READ;
+use entries::entry::WRITE;
+use ledger::layout::BLOCK_BYTES;
+use ledger::layout::active;
+use ledger::layout::base;
+use ledger::refusals::ACCEPTED;
+use ledger::refusals::MISFIT;
+use ledger::refusals::NO_ACTIVE_TABLE;
+use ledger::refusals::RIGHT_LACKING;
+use ledger::region::blocks;
+use ledger::region::is_misfit_stored;
+use ledger::region::is_outside;
+ghost use mathlib.Core.Bool.{_||_};
+ghost use mathlib.Core.Path.{_≡_};
+ghost use Prim.Native.Nat.{_+_, _≤_};
+ghost use Rattle.entries.specs.Entries.{l1};
+ghost use Rattle.rules.specs.General.{misaligned};
+ghost use Rattle.rules.specs.Guest.{fetches, guestOutcome, needed, reads, writes};
+ghost use Rattle.rules.specs.Store.{lent, outside, physicalBlocks};
+ghost use Rattle.rules.specs.Tables.{allows, tableBlocks};
+ghost use Rattle.guest.specs.Meaning.{accessOf, answerIn, arrived, byteIn, judged, memoryIn, walkOf};
+ghost use Rattle.guest.specs.Needs.{InMemory, Sound};
+
+// The blocks of an L1 table.
+const TABLE_BLOCKS: u32 = 4;
+
+pub enum Access {
+    Read,
+    Fetch,
+    // The byte to be stored.
+    Write(u32),
+}
+
+// A refusal with its number, or the place in memory of the byte to be read or stored.
+pub enum Verdict {
+    Refused(u32),
+    Allowed(usize),
+}
+
+fn is_allowed(access: Access, rights: u32) -> bool
+    ensures { λ r. ⌜ r ≡ allows rights (needed (accessOf access)) ⌝ }
+{
+    match access {
+        Access::Read => rights / READ % 2 == 1,
+        Access::Fetch => rights / EXECUTE % 2 == 1,
+        Access::Write(_) => rights / WRITE % 2 == 1,
+    }
+}
+
+// "21 if active isn't the first of four region blocks, a multiple of 4"
+fn is_no_table(first: u32, n: usize, table: u32) -> bool
+    requires { ⌜ first + n ≤ physicalBlocks ⌝ }
+    ensures { λ r. ⌜ r ≡ (outside first n table (tableBlocks l1) || misaligned table (tableBlocks l1)) ⌝ }
+{
+    if is_outside(first, n, table, TABLE_BLOCKS) {
+        return true;
+    }
+    table % TABLE_BLOCKS != 0
+}
+
+// "at the end 23 if the right is lacking"
+fn arrive(walk: Walk, access: Access, first: u32, address: u32) -> Verdict
+    requires { ⌜ Sound first (walkOf walk) ⌝ }
+    ensures { λ r. ⌜ r ≡ arrived (accessOf access) first address (walkOf walk) ⌝ }
+{
+    match walk {
+        Walk::Stops { level: _, number } => Verdict::Refused(number),
+        Walk::Ends {
+            level: _,
+            block,
+            rights,
+        } => {
+            if is_allowed(access, rights) {
+                return Verdict::Allowed(
+                    BLOCK_BYTES * (block - first) as usize + address as usize % BLOCK_BYTES,
+                );
+            }
+            Verdict::Refused(RIGHT_LACKING)
+        }
+    }
+}
+
+fn judge(memory: &[u8], ledger: &[u8], access: Access, address: u32) -> Verdict
+    ensures { λ r. ⌜ r ≡ judged (accessOf access) (lent (now (memory .entry)) (now (ledger .entry))) address ⌝ }
+{
+    if is_misfit_stored(memory, ledger) {
+        return Verdict::Refused(MISFIT);
+    }
+    let first = base(ledger);
+    let n = blocks(memory);
+    let table = active(ledger);
+    if is_no_table(first, n, table) {
+        return Verdict::Refused(NO_ACTIVE_TABLE);
+    }
+    arrive(
+        walk_tables(memory, first, n, table, address),
+        access,
+        first,
+        address,
+    )
+}
+
+// Gives the byte, or 0 with a refusal.
+fn give(verdict: Verdict, memory: &[u8], byte: &mut u8) -> u32
+    requires { ⌜ InMemory (now memory) verdict ⌝ }
+    ensures { λ r. ⌜ r ≡ answerIn verdict ⌝ }
+    ensures { λ r. ⌜ now (byte .exit) ≡ byteIn reads (now (memory .entry)) verdict ⌝ }
+{
+    match verdict {
+        Verdict::Refused(number) => {
+            *byte = 0;
+            number
+        }
+        Verdict::Allowed(at) => {
+            *byte = memory[at];
+            ACCEPTED
+        }
+    }
+}
+
+// Stores the low 8 bits of the byte.
+fn store(verdict: Verdict, memory: &mut [u8], byte: u32) -> u32
+    requires { ⌜ InMemory (now memory) verdict ⌝ }
+    ensures { λ r. ⌜ r ≡ answerIn verdict ⌝ }
+    ensures { λ r. ⌜ now (memory .exit) ≡ memoryIn (writes byte) (now (memory .entry)) verdict ⌝ }
+{
+    match verdict {
+        Verdict::Refused(number) => number,
+        Verdict::Allowed(at) => {
+            memory[at] = (byte % 0x100) as u8;
+            ACCEPTED
+        }
+    }
+}
+
+pub fn read(memory: &[u8], ledger: &[u8], address: u32, byte: &mut u8) -> u32
+    ensures { λ r. ⌜ r ≡ guestOutcome reads (lent (now (memory .entry)) (now (ledger .entry))) address .answer ⌝ }
+    ensures { λ r. ⌜ now (byte .exit) ≡ guestOutcome reads (lent (now (memory .entry)) (now (ledger .entry))) address .byte ⌝ }
+    ensures { λ r. ⌜ lent (now (memory .entry)) (now (ledger .entry)) ≡ guestOutcome reads (lent (now (memory .entry)) (now (ledger .entry))) address .after ⌝ }
+{
+    give(judge(memory, ledger, Access::Read, address), memory, byte)
+}
+
+pub fn fetch(memory: &[u8], ledger: &[u8], address: u32, byte: &mut u8) -> u32
+    ensures { λ r. ⌜ r ≡ guestOutcome fetches (lent (now (memory .entry)) (now (ledger .entry))) address .answer ⌝ }
+    ensures { λ r. ⌜ now (byte .exit) ≡ guestOutcome fetches (lent (now (memory .entry)) (now (ledger .entry))) address .byte ⌝ }
+    ensures { λ r. ⌜ lent (now (memory .entry)) (now (ledger .entry)) ≡ guestOutcome fetches (lent (now (memory .entry)) (now (ledger .entry))) address .after ⌝ }
+{
+    give(judge(memory, ledger, Access::Fetch, address), memory, byte)
+}
+
+pub fn write(memory: &mut [u8], ledger: &[u8], address: u32, byte: u32) -> u32
+    ensures { λ r. ⌜ r ≡ guestOutcome (writes byte) (lent (now (memory .entry)) (now (ledger .entry))) address .answer ⌝ }
+    ensures { λ r. ⌜ lent (now (memory .exit)) (now (ledger .entry)) ≡ guestOutcome (writes byte) (lent (now (memory .entry)) (now (ledger .entry))) address .after ⌝ }
+{
+    let verdict = judge(memory, ledger, Access::Write(byte), address);
+    store(verdict, memory, byte)
+}

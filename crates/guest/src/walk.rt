@@ -1,0 +1,116 @@
+// A walk through the tables: "bits 31..20 index L1, 19..12 L2".
+use entries::decode::l1_entry_at;
+use entries::decode::l2_entry_at;
+use entries::entry;
+use entries::entry::Entry;
+use entries::entry::Level;
+use entries::entry::TABLES_OF_A_BLOCK;
+use ledger::layout::BLOCK_BYTES;
+use ledger::refusals::ACCEPTED;
+use ledger::refusals::BROKEN_WALK;
+use ledger::refusals::FAULT_ENTRY;
+use ledger::region::is_astray;
+ghost use mathlib.Core.Path.{_≡_};
+ghost use Prim.Native.Nat.{_+_, _≤_};
+ghost use Rattle.entries.specs.Entries.{l1, link};
+ghost use Rattle.entries.specs.Meaning.{levelOf, meaning};
+ghost use Rattle.rules.specs.Store.{physicalBlocks};
+ghost use Rattle.rules.specs.Tables.{tableBlocks};
+ghost use Rattle.rules.specs.Guest.{endsAt, follow, passes, walk};
+ghost use Rattle.guest.specs.Meaning.{walkOf};
+ghost use Rattle.guest.specs.Needs.{NumberAt, Region};
+
+const BLOCK_WORDS: usize = 1024;
+
+const L2_WORDS: usize = 256;
+
+// A walk stops at an entry of a level with a number, or ends at an entry of a level in a block, with the entry's rights.
+pub enum Walk {
+    Stops {
+        level: Level,
+        number: u32,
+    },
+    Ends {
+        level: Level,
+        block: u32,
+        rights: u32,
+    },
+}
+
+// The number with which a walk stops at an entry, or 0 where it goes on.
+fn stop_number(e: Entry, first: u32, n: usize) -> u32
+    requires { ⌜ first + n ≤ physicalBlocks ⌝ }
+    ensures { λ r. ⌜ NumberAt first n (meaning e) r ⌝ }
+{
+    if entry::is_unaccepted(e) {
+        return BROKEN_WALK;
+    }
+    if is_astray(e, first, n) {
+        return BROKEN_WALK;
+    }
+    if entry::is_fault(e) {
+        return FAULT_ENTRY;
+    }
+    ACCEPTED
+}
+
+// A walk at an entry that leads no further.
+fn ends_at(level: Level, e: Entry, first: u32, n: usize, address: u32) -> Walk
+    requires { ⌜ first + n ≤ physicalBlocks ⌝ }
+    ensures { λ r. ⌜ walkOf r ≡ passes (levelOf level) first n (meaning e) (endsAt (levelOf level) address (meaning e)) ⌝ }
+{
+    let number = stop_number(e, first, n);
+    if number != ACCEPTED {
+        return Walk::Stops { level, number };
+    }
+    Walk::Ends {
+        level,
+        block: entry::first(e) + address / (BLOCK_BYTES as u32) % entry::size(e),
+        rights: entry::rights(e),
+    }
+}
+
+// A walk at a link of an L1 table, by the 1 KiB place of the L2 table.
+fn through_link(place: u32, memory: &[u8], first: u32, n: usize, address: u32) -> Walk
+    requires { ⌜ Region (now memory) first n ⌝ }
+    ensures { λ r. ⌜ walkOf r ≡ passes l1 first n (link place) (follow first n (now (memory .entry)) address (link place)) ⌝ }
+{
+    let number = stop_number(Entry::Link(place), first, n);
+    if number != ACCEPTED {
+        return Walk::Stops {
+            level: Level::L1,
+            number,
+        };
+    }
+    let table = (place - TABLES_OF_A_BLOCK * first) as usize;
+    let e = l2_entry_at(
+        memory,
+        L2_WORDS * table + words::bits(address, 12, 8) as usize,
+    );
+    ends_at(Level::L2, e, first, n, address)
+}
+
+// A walk at an entry of an L1 table.
+fn from_l1(e: Entry, memory: &[u8], first: u32, n: usize, address: u32) -> Walk
+    requires { ⌜ Region (now memory) first n ⌝ }
+    ensures { λ r. ⌜ walkOf r ≡ passes l1 first n (meaning e) (follow first n (now (memory .entry)) address (meaning e)) ⌝ }
+{
+    match e {
+        Entry::Link(place) => through_link(place, memory, first, n, address),
+        _ => ends_at(Level::L1, e, first, n, address),
+    }
+}
+
+// The walk from the L1 table at a block of the n blocks of memory from first on.
+pub fn walk_tables(memory: &[u8], first: u32, n: usize, table: u32, address: u32) -> Walk
+    requires { ⌜ Region (now memory) first n ⌝ }
+    requires { ⌜ (first ≤ table) × (table + tableBlocks l1 ≤ first + n) ⌝ }
+    ensures { λ r. ⌜ walkOf r ≡ walk first n (now (memory .entry)) table address ⌝ }
+{
+    let b = (table - first) as usize;
+    let e = l1_entry_at(
+        memory,
+        BLOCK_WORDS * b + words::bits(address, 20, 12) as usize,
+    );
+    from_l1(e, memory, first, n, address)
+}
