@@ -1,0 +1,4 @@
+pub mod Linking
+pub mod Mappings
+pub mod Slots
+pub mod Unmapping

@@ -1,0 +1,58 @@
+-- Each return is decided by the tests up to its own.
+use native.Mathlib.Omega.{arith}
+use Rattle.rules.specs.Map.{clashingTarget}
+use Rattle.ledger.proofs.Judge.{told}
+use Rattle.mapping.proofs.Mappings.{or-none}
+use mathlib.Core.Path.{sym, _∙_}
+use borrow.Author.Needs.{needs}
+use Rattle.mapping.proofs.target.is_clashing_target.Statement.{statement}
+use Rattle.mapping.proofs.target.is_clashing_target.Tie as tie
+
+returns : tie.Need-returns
+unfolding clashingTarget
+returns c = rw (told (c .before .before .before .allows .ensures) (c .before .before .if1 .taken), told (c .before .allows2 .ensures) (c .if2 .taken))
+
+some-counted-requires : tie.Need-some-counted-requires
+some-counted-requires c κs =
+    let start = c .before .before .before .before .before .before .before in
+    (omega arith, record { fits = start .pre .fits; inside = rw (c .before .before .before .before .covered .ensures .0) (start .pre .inside) })
+
+returns-2 : tie.Need-returns-2
+unfolding clashingTarget
+returns-2 c =
+    rw (
+      told (c .before .before .before .before .allows .ensures) (c .before .before .before .if1 .taken),
+      told (c .before .before .allows2 .ensures) (c .before .if2 .left),
+    ) (rw (c .before .before .before .before .before .covered .ensures .0) at (c .some-counted .ensures) ∙ sym (or-none _))
+
+some-counted-requires-2 : tie.Need-some-counted-requires-2
+some-counted-requires-2 c κs =
+    let start = c .before .before .before .before .before .before .before in
+    (omega arith, record { fits = start .pre .fits; inside = rw (c .before .before .before .before .covered .ensures .0) (start .pre .inside) })
+
+returns-3 : tie.Need-returns-3
+unfolding clashingTarget
+returns-3 c =
+    rw (
+      told (c .before .before .before .before .allows .ensures) (c .before .before .before .if1 .left),
+      told (c .before .before .allows3 .ensures) (c .before .if3 .taken),
+    ) (rw (c .before .before .before .before .before .covered .ensures .0) at (c .some-counted2 .ensures))
+
+returns-4 : tie.Need-returns-4
+unfolding clashingTarget
+returns-4 c = rw (told (c .before .before .before .allows .ensures) (c .before .before .if1 .left), told (c .before .allows3 .ensures) (c .if3 .left))
+
+pub is-clashing-target-spec : {M : Type 1} → statement M
+is-clashing-target-spec =
+    tie.close
+    (tie.spec
+    (λ c κs. search needs)
+    (λ c κs. search needs)
+    (λ c κs. search needs)
+    returns
+    some-counted-requires
+    returns-2
+    (λ c κs. search needs)
+    some-counted-requires-2
+    returns-3
+    returns-4)

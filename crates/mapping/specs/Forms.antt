@@ -1,0 +1,9 @@
+-- What the code's forms mean.
+use Rattle.rules.specs.Tables as tables
+use Rattle.rules.specs.Tables.{sections, pages}
+use Rattle.mapping.specs.declared.form.Form as form
+use Rattle.mapping.specs.declared.form.Form.the-variants.{Sections, Pages}
+
+abbrev pub formOf : form.Form → tables.Form
+formOf Sections = sections
+formOf Pages = pages

@@ -1,0 +1,40 @@
+-- The pieces of the rules' lists of refusals that have a function of their own: what inner functions owe each other. The calls' promises cite the rules' whole lists.
+use mathlib.Core.List.{List, [], _∷_}
+use Prim.Native.Nat.{ℕ}
+use Rattle.words.specs.Bounded.{neqb}
+use Rattle.entries.specs.Entries.{Entry, Level, l2, isUnaccepted}
+use Rattle.rules.specs.Refusals.{Refusal, _if_}
+use Rattle.rules.specs.Store.{Store, base, blocks, typeOf, misfit}
+use Rattle.rules.specs.Signature.{misfitImage}
+use Rattle.rules.specs.Tables.{code, tableBlocks, Form, level, alignment, mapping, astray}
+use Rattle.rules.specs.General.{otherType, executableHolder, tableOutside, misaligned, beyondTable, someOverrun, added, removed}
+use Rattle.rules.specs.Link.{linkTo}
+use Rattle.rules.specs.Map.{unfitTarget, clashingTarget, unsignedTarget}
+
+-- the place of a table
+abbrev pub placeRefusals : Level → Store → ℕ → List Refusal
+placeRefusals v s p = 2 if tableOutside v s p ∷ 3 if misaligned p (tableBlocks v) ∷ []
+
+-- the block that holds an entry
+abbrev pub holderRefusals : Level → Store → ℕ → ℕ → List Refusal
+holderRefusals v s p i = 5 if otherType v s p (code v) ∷ 7 if executableHolder s p i ∷ []
+
+-- the entry that unmap removes
+abbrev pub removalRefusals : Store → Entry → List Refusal
+removalRefusals s e = 8 if isUnaccepted e ∷ 10 if astray (base s) (blocks s) e ∷ 13 if someOverrun removed s 1 (λ k. e) ∷ []
+
+-- the table to which a link leads
+abbrev pub linkTargetRefusals : Store → ℕ → ℕ → List Refusal
+linkTargetRefusals s t j = 10 if tableOutside l2 s t ∷ 10 if neqb (typeOf s t) (code l2) ∷ 13 if someOverrun added s 1 (λ k. linkTo t j) ∷ []
+
+-- what a mapping asks of the table and the index
+abbrev pub mapPlaceRefusals : Form → List ℕ → Store → ℕ → ℕ → ℕ → List Refusal
+mapPlaceRefusals f golden s p i t =
+    1 if misfit s (base s) ∷ 1 if misfitImage golden ∷ 2 if tableOutside (level f) s p ∷ 3 if misaligned p (tableBlocks (level f))
+    ∷ 3 if misaligned t (alignment f) ∷ 4 if beyondTable (level f) i ∷ []
+
+-- and of its target
+abbrev pub mapTargetRefusals : Form → List ℕ → Store → ℕ → ℕ → ℕ → ℕ → List Refusal
+mapTargetRefusals f golden s p i t r =
+    10 if unfitTarget f s p i t r ∷ 11 if clashingTarget f s t r ∷ 12 if unsignedTarget f golden s t r
+    ∷ 13 if someOverrun added s 1 (λ k. mapping f t r) ∷ []

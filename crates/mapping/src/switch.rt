@@ -1,0 +1,42 @@
+// Switch to an L1 block.
+use entries::entry::Level;
+use ledger::layout::TYPE_L1;
+use ledger::layout::put_active;
+use ledger::refusals::ACCEPTED;
+use ledger::refusals::MISFIT;
+use ledger::refusals::WRONG_TYPE;
+use ledger::region::is_misfit_stored;
+use ledger::table::is_other_type;
+use ledger::table::place_refusal;
+ghost use mathlib.Core.Path.{_≡_};
+ghost use Rattle.rules.specs.Refusals.{answerOf};
+ghost use Rattle.rules.specs.Store.{lent};
+ghost use Rattle.rules.specs.Switch.{switchOutcome, switchRefusals};
+
+fn switch_refusal(memory: &[u8], ledger: &[u8], block: u32) -> u32
+    ensures { λ r. ⌜ r ≡ answerOf (switchRefusals (lent (now (memory .entry)) (now (ledger .entry))) block) ⌝ }
+{
+    if is_misfit_stored(memory, ledger) {
+        return MISFIT;
+    }
+    let place = place_refusal(Level::L1, memory, ledger, block);
+    if place != ACCEPTED {
+        return place;
+    }
+    if is_other_type(Level::L1, memory, ledger, block, TYPE_L1) {
+        return WRONG_TYPE;
+    }
+    ACCEPTED
+}
+
+pub fn switch(memory: &[u8], ledger: &mut [u8], block: u32) -> u32
+    ensures { λ r. ⌜ r ≡ switchOutcome (lent (now (memory .entry)) (now (ledger .entry))) block .answer ⌝ }
+    ensures { λ r. ⌜ lent (now (memory .entry)) (now (ledger .exit)) ≡ switchOutcome (lent (now (memory .entry)) (now (ledger .entry))) block .after ⌝ }
+{
+    let refusal = switch_refusal(memory, ledger, block);
+    if refusal != ACCEPTED {
+        return refusal;
+    }
+    put_active(ledger, block);
+    ACCEPTED
+}

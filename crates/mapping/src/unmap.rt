@@ -1,0 +1,89 @@
+// Unmap L1, unmap L2 with block and index.
+use crate::form::Form;
+use crate::form::level;
+use crate::slot::entry_in;
+use crate::slot::holder_refusal;
+use crate::slot::write_entry;
+use entries::entry::Entry;
+use entries::entry::is_unaccepted;
+use ledger::counters::Change;
+use ledger::counters::entry_overruns;
+use ledger::layout::base;
+use ledger::refusals::ACCEPTED;
+use ledger::refusals::BEYOND_TABLE;
+use ledger::refusals::MISFIT;
+use ledger::refusals::OVERRUN;
+use ledger::refusals::UNFIT_TARGET;
+use ledger::refusals::WRONG_ENTRY;
+use ledger::region::blocks;
+use ledger::region::is_astray;
+use ledger::region::is_misfit_stored;
+use ledger::table::place_refusal;
+use ledger::table::table_entries;
+ghost use mathlib.Core.Bool.{false};
+ghost use mathlib.Core.Path.{_≡_};
+ghost use Rattle.entries.specs.Meaning.{meaning};
+ghost use Rattle.rules.specs.Refusals.{answerOf};
+ghost use Rattle.rules.specs.Store.{base as storedBase, lent, misfit};
+ghost use Rattle.rules.specs.Unmap.{unmapOutcome, unmapRefusals};
+ghost use Rattle.mapping.specs.Forms.{formOf};
+ghost use Rattle.mapping.specs.Pieces.{removalRefusals};
+
+// "The word becomes 0"
+const FAULT_WORD: u32 = 0;
+
+// Refusals 8, 10 and 13 of the entry to be removed.
+fn removal_refusal(memory: &[u8], ledger: &[u8], e: Entry) -> u32
+    requires { ⌜ misfit (lent (now memory) (now ledger)) (storedBase (lent (now memory) (now ledger))) ≡ false ⌝ }
+    ensures { λ r. ⌜ r ≡ answerOf (removalRefusals (lent (now (memory .entry)) (now (ledger .entry))) (meaning e)) ⌝ }
+{
+    if is_unaccepted(e) {
+        return WRONG_ENTRY;
+    }
+    if is_astray(e, base(ledger), blocks(memory)) {
+        return UNFIT_TARGET;
+    }
+    if entry_overruns(Change::Removed, memory, ledger, e) {
+        return OVERRUN;
+    }
+    ACCEPTED
+}
+
+fn unmap_refusal(form: Form, memory: &[u8], ledger: &[u8], block: u32, index: u32) -> u32
+    ensures { λ r. ⌜ r ≡ answerOf (unmapRefusals (formOf form) (lent (now (memory .entry)) (now (ledger .entry))) block index) ⌝ }
+{
+    if is_misfit_stored(memory, ledger) {
+        return MISFIT;
+    }
+    let level = level(form);
+    let place = place_refusal(level, memory, ledger, block);
+    if place != ACCEPTED {
+        return place;
+    }
+    if table_entries(level) <= index {
+        return BEYOND_TABLE;
+    }
+    let holder = holder_refusal(level, memory, ledger, block, index);
+    if holder != ACCEPTED {
+        return holder;
+    }
+    removal_refusal(
+        memory,
+        ledger,
+        entry_in(level, memory, ledger, block, index),
+    )
+}
+
+// "The word becomes 0, a fault entry's too", and the counters lose the entry.
+pub fn unmap(form: Form, memory: &mut [u8], ledger: &mut [u8], block: u32, index: u32) -> u32
+    ensures { λ r. ⌜ r ≡ unmapOutcome (formOf form) (lent (now (memory .entry)) (now (ledger .entry))) block index .answer ⌝ }
+    ensures { λ r. ⌜ lent (now (memory .exit)) (now (ledger .exit)) ≡ unmapOutcome (formOf form) (lent (now (memory .entry)) (now (ledger .entry))) block index .after ⌝ }
+{
+    let refusal = unmap_refusal(form, memory, ledger, block, index);
+    if refusal != ACCEPTED {
+        return refusal;
+    }
+    let e = entry_in(level(form), memory, ledger, block, index);
+    write_entry(Change::Removed, memory, ledger, block, index, e, FAULT_WORD);
+    ACCEPTED
+}
