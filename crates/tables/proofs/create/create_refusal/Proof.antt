@@ -1,0 +1,49 @@
+-- Each return is decided by the tests up to its own.
+use mathlib.Core.List.{[], _∷_}
+use mathlib.Core.Path.{sym, _∙_}
+use native.Mathlib.Omega.{arith}
+use Rattle.rules.proofs.Refusals.{passed, now}
+use Rattle.ledger.proofs.Judge.{decides, here, past, refused, accepted, told}
+use Rattle.tables.proofs.Chains.{answered}
+use borrow.Author.Needs.{needs}
+use Rattle.tables.proofs.create.create_refusal.Statement.{statement}
+use Rattle.tables.proofs.create.create_refusal.Tie as tie
+
+returns : tie.Need-returns
+returns c = decides (here (told (c .before .is-misfit-stored .ensures) (c .if1 .taken)))
+
+returns-2 : tie.Need-returns-2
+returns-2 c = decides (past (told (c .before .before .before .is-misfit-stored .ensures) (c .before .before .if1 .left)) (here (told (c .before .is-misfit-image .ensures) (c .if2 .taken))))
+
+table-refusal-requires : tie.Need-table-refusal-requires
+table-refusal-requires c κs = told (c .before .before .before .is-misfit-stored .ensures) (c .before .before .if1 .left)
+
+returns-3 : tie.Need-returns-3
+returns-3 c = decides (past (told (c .before .before .before .before .before .is-misfit-stored .ensures) (c .before .before .before .before .if1 .left)) (past (told (c .before .before .before .is-misfit-image .ensures) (c .before .before .if2 .left)) (refused _ (_ ∷ _ ∷ _ ∷ _ ∷ _ ∷ []) (c .before .table-refusal .ensures) (c .if3 .taken))))
+
+is-counted-requires : tie.Need-is-counted-requires
+is-counted-requires c κs = (told (c .before .before .before .before .before .is-misfit-stored .ensures) (c .before .before .before .before .if1 .left), now (passed _ (omega arith) (sym (c .before .table-refusal .ensures) ∙ c .if3 .left)))
+
+returns-4 : tie.Need-returns-4
+returns-4 c = decides (past (told (c .before .before .before .before .before .before .before .is-misfit-stored .ensures) (c .before .before .before .before .before .before .if1 .left)) (past (told (c .before .before .before .before .before .is-misfit-image .ensures) (c .before .before .before .before .if2 .left)) (accepted (passed _ (omega arith) (sym (c .before .before .before .table-refusal .ensures) ∙ c .before .before .if3 .left)) (here (told (c .before .is-counted .ensures) (c .if4 .taken))))))
+
+entries-refusal-requires : tie.Need-entries-refusal-requires
+entries-refusal-requires c κs = (told (c .before .before .before .before .before .before .before .is-misfit-stored .ensures) (c .before .before .before .before .before .before .if1 .left), now (passed _ (omega arith) (sym (c .before .before .before .table-refusal .ensures) ∙ c .before .before .if3 .left)))
+
+returns-5 : tie.Need-returns-5
+returns-5 c = decides (past (told (c .before .before .before .before .before .before .before .before .is-misfit-stored .ensures) (c .before .before .before .before .before .before .before .if1 .left)) (past (told (c .before .before .before .before .before .before .is-misfit-image .ensures) (c .before .before .before .before .before .if2 .left)) (accepted (passed _ (omega arith) (sym (c .before .before .before .before .table-refusal .ensures) ∙ c .before .before .before .if3 .left)) (past (told (c .before .before .is-counted .ensures) (c .before .if4 .left)) (answered _ (c .entries-refusal .ensures))))))
+
+pub create-refusal-spec : {M : Type 1} → statement M
+create-refusal-spec =
+    tie.close
+    (tie.spec
+    (λ c κs. search needs)
+    returns
+    (λ c κs. search needs)
+    returns-2
+    table-refusal-requires
+    returns-3
+    is-counted-requires
+    returns-4
+    entries-refusal-requires
+    returns-5)

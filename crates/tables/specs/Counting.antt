@@ -1,0 +1,67 @@
+-- Refusal 13, looked for while the entries are counted one by one.
+use mathlib.Core.Bool.{Bool, true, _&&_, _||_}
+use mathlib.Core.List.{List}
+use mathlib.Core.Path.{_≡_}
+use Prim.Native.Nat.{ℕ, _+_, _-_, _^_, _<_, _≤_}
+use Rattle.words.specs.Bounded.{above}
+use Rattle.entries.specs.Entries.{Entry, Level, first, size}
+use Rattle.rules.specs.Store.{limit, Store, lent, blocks, base, recordWord, Counter, counterPlace, someCounter, counter, someBlock, retype}
+use Rattle.rules.specs.Tables.{typeD, code, tableBlocks, entries, tableEntry, grants, gain}
+use Rattle.rules.specs.General.{Change, added, removed, recounted}
+
+-- a number is below least or above most
+abbrev pub beyond : ℕ → ℕ → ℕ → Bool
+beyond least most k = above least k || above k most
+
+-- a counter by which the entry counts is below least or above most on some block of its place
+unfoldable pub counterBeyond : ℕ → ℕ → Store → Counter → Entry → Bool
+counterBeyond least most s c e = grants c e && someBlock (first e) (size e) (λ b. beyond least most (counter c s b))
+
+unfoldable pub entryBeyond : ℕ → ℕ → Store → Entry → Bool
+entryBeyond least most s e = someCounter (λ c. counterBeyond least most s c e)
+
+-- the counters that can be changed by one: a counter that is added to stays within the limit
+abbrev pub leastOf : Change → ℕ
+leastOf added = 0
+leastOf removed = 1
+
+abbrev pub mostOf : Change → ℕ
+mostOf added = limit - 1
+mostOf removed = 2 ^ 32 - 1
+
+-- no counter has overrun on the way
+abbrev pub Room : Change → ℕ → ℕ → Type 0
+Room added old k = 0 < k → old + k ≤ limit
+Room removed old k = k ≤ old
+
+abbrev pub Roomy : Change → Store → ℕ → (ℕ → Entry) → Type 0
+Roomy d s i e = (c : Counter) (b : ℕ) → b < blocks s → Room d (recordWord (s .ledger) (counterPlace c) b) (gain i e c (base s + b))
+
+-- counters can be changed by k and stored
+abbrev pub Storable : Change → ℕ → ℕ → Type 0
+Storable added old k = old + k < 2 ^ 32
+Storable removed old k = k ≤ old
+
+abbrev pub AllStorable : Change → Store → ℕ → (ℕ → Entry) → Type 0
+AllStorable d s i e = (c : Counter) (b : ℕ) → b < blocks s → Storable d (recordWord (s .ledger) (counterPlace c) b) (gain i e c (base s + b))
+
+-- taking back
+abbrev pub opposite : Change → Change
+opposite added = removed
+opposite removed = added
+
+-- what counting the m entries e leaves: r of them are counted, and the next can't be
+pub record Counted (d : Change) (s : Store) (m : ℕ) (e : ℕ → Entry) (r : ℕ) (ledger : List ℕ) : Type 0 where
+  pub at-most : r ≤ m
+  pub ledger-is : ledger ≡ recounted d s r e
+  pub roomy : Roomy d s r e
+  pub stuck : r < m → entryBeyond (leastOf d) (mostOf d) (lent (s .memory) (recounted d s r e)) (e r) ≡ true
+
+-- the type of a table's blocks when its entries have been added, or removed
+abbrev pub typeAfter : Change → Level → ℕ
+typeAfter added v = code v
+typeAfter removed v = typeD
+
+-- "Types and counters change": the ledger when the table at block p has been created, or freed
+abbrev pub turned : Change → Level → Store → ℕ → List ℕ
+turned d v s p = retype (recounted d s (entries v) (tableEntry v s p)) (p - base s) (tableBlocks v) (typeAfter d v)

@@ -1,0 +1,54 @@
+// Begin with B: "All types and counters become 0, active none; memory unchanged".
+use ledger::layout::EXECUTABLE;
+use ledger::layout::LINKED;
+use ledger::layout::NO_TABLE;
+use ledger::layout::TYPE;
+use ledger::layout::TYPE_D;
+use ledger::layout::WRITABLE;
+use ledger::layout::put_active;
+use ledger::layout::put_base;
+use ledger::layout::put_record_word;
+use ledger::refusals::ACCEPTED;
+use ledger::refusals::MISFIT;
+use ledger::region::blocks;
+use ledger::region::is_misfit;
+ghost use mathlib.Core.Path.{_≡_};
+ghost use Prim.Native.Nat.{_+_};
+ghost use Rattle.ledger.specs.Records.{InLedger};
+ghost use Rattle.rules.specs.Begin.{beginOutcome};
+ghost use Rattle.rules.specs.Store.{lent, putCounters, putRecordWord, recount, retype, typePlace};
+ghost use Rattle.rules.specs.Tables.{typeD};
+
+// The record of block b has type D and no counts.
+fn clear_record(ledger: &mut [u8], b: usize)
+    requires { ⌜ InLedger (now ledger) (b + 1) ⌝ }
+    ensures { λ r. ⌜ now (ledger .exit) ≡ putCounters (putRecordWord (now (ledger .entry)) typePlace b typeD) b (λ c. 0) ⌝ }
+{
+    put_record_word(ledger, TYPE, b, TYPE_D);
+    put_record_word(ledger, WRITABLE, b, 0);
+    put_record_word(ledger, EXECUTABLE, b, 0);
+    put_record_word(ledger, LINKED, b, 0);
+}
+
+// So have the records of the first n blocks.
+fn clear_records(ledger: &mut [u8], n: usize)
+    requires { ⌜ InLedger (now ledger) n ⌝ }
+    ensures { λ r. ⌜ now (ledger .exit) ≡ recount (retype (now (ledger .entry)) 0 n typeD) n (λ c b. 0) ⌝ }
+{
+    for b in 0..n {
+        clear_record(ledger, b);
+    }
+}
+
+pub fn begin(memory: &[u8], ledger: &mut [u8], first: u32) -> u32
+    ensures { λ r. ⌜ r ≡ beginOutcome (lent (now (memory .entry)) (now (ledger .entry))) first .answer ⌝ }
+    ensures { λ r. ⌜ lent (now (memory .entry)) (now (ledger .exit)) ≡ beginOutcome (lent (now (memory .entry)) (now (ledger .entry))) first .after ⌝ }
+{
+    if is_misfit(memory, ledger, first) {
+        return MISFIT;
+    }
+    clear_records(ledger, blocks(memory));
+    put_base(ledger, first);
+    put_active(ledger, NO_TABLE);
+    ACCEPTED
+}

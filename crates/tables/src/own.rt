@@ -1,0 +1,115 @@
+// A table's own blocks: where its entries stand, and its blocks' records.
+use entries::entry::Level;
+use ledger::layout::BLOCK_WORDS;
+use ledger::layout::EXECUTABLE;
+use ledger::layout::LINKED;
+use ledger::layout::TYPE;
+use ledger::layout::WRITABLE;
+use ledger::layout::active;
+use ledger::layout::base;
+use ledger::layout::put_record_word;
+use ledger::layout::record_word;
+use ledger::refusals::ACCEPTED;
+use ledger::refusals::WRONG_TYPE;
+use ledger::scan::some_above_zero;
+use ledger::table::is_other_type;
+use ledger::table::place_refusal;
+use ledger::table::table_blocks;
+ghost use mathlib.Core.Path.{_≡_};
+ghost use Prim.Native.Nat.{_+_, _-_, _*_, _<_, _^_};
+ghost use Rattle.entries.specs.Entries.{l1, l2};
+ghost use Rattle.entries.specs.Meaning.{levelOf};
+ghost use Rattle.ledger.specs.Records.{InLedger};
+ghost use Rattle.rules.specs.Create.{someCount};
+ghost use Rattle.rules.specs.Free.{inUse};
+ghost use Rattle.rules.specs.Store.{blockWords, lent, retype};
+ghost use Rattle.rules.specs.Store.{base as storedBase};
+ghost use Rattle.rules.specs.Refusals.{answerOf};
+ghost use Rattle.tables.specs.Judged.{tableRefusals};
+ghost use Rattle.tables.specs.Lent.{Fits, TableInside};
+
+// The place of the table's first record.
+pub fn first_record(level: Level, memory: &[u8], ledger: &[u8], block: u32) -> usize
+    requires { ⌜ Fits (now memory) (now ledger) × TableInside (levelOf level) (now memory) (now ledger) block ⌝ }
+    ensures { λ r. ⌜ (r ≡ block - storedBase (lent (now (memory .entry)) (now (ledger .entry)))) × (r < 2 ^ 20) ⌝ }
+{
+    (block - base(ledger)) as usize
+}
+
+// The word of the memory with which the table begins.
+pub fn first_word(level: Level, memory: &[u8], ledger: &[u8], block: u32) -> usize
+    requires { ⌜ Fits (now memory) (now ledger) × TableInside (levelOf level) (now memory) (now ledger) block ⌝ }
+    ensures { λ r. ⌜ r ≡ blockWords * (block - storedBase (lent (now (memory .entry)) (now (ledger .entry)))) ⌝ }
+{
+    BLOCK_WORDS as usize * first_record(level, memory, ledger, block)
+}
+
+// "6 if any counter of its blocks is above 0"
+pub fn is_counted(level: Level, memory: &[u8], ledger: &[u8], block: u32) -> bool
+    requires { ⌜ Fits (now memory) (now ledger) ⌝ }
+    requires { ⌜ TableInside (levelOf level) (now memory) (now ledger) block ⌝ }
+    ensures { λ r. ⌜ r ≡ someCount (levelOf level) (lent (now (memory .entry)) (now (ledger .entry))) block ⌝ }
+{
+    let b = (block - base(ledger)) as usize;
+    let m = table_blocks(level) as usize;
+    if some_above_zero(ledger, WRITABLE, b, m) {
+        return true;
+    }
+    if some_above_zero(ledger, EXECUTABLE, b, m) {
+        return true;
+    }
+    some_above_zero(ledger, LINKED, b, m)
+}
+
+fn is_active(memory: &[u8], ledger: &[u8], block: u32) -> bool
+    requires { ⌜ Fits (now memory) (now ledger) ⌝ }
+    ensures { λ r. ⌜ r ≡ inUse l1 (lent (now (memory .entry)) (now (ledger .entry))) block ⌝ }
+{
+    active(ledger) == block
+}
+
+fn is_linked(memory: &[u8], ledger: &[u8], block: u32) -> bool
+    requires { ⌜ Fits (now memory) (now ledger) ⌝ }
+    requires { ⌜ TableInside l2 (now memory) (now ledger) block ⌝ }
+    ensures { λ r. ⌜ r ≡ inUse l2 (lent (now (memory .entry)) (now (ledger .entry))) block ⌝ }
+{
+    let b = (block - base(ledger)) as usize;
+    0 < record_word(ledger, LINKED, b)
+}
+
+// "6 if active (L1) or l above 0 (L2)"
+pub fn is_in_use(level: Level, memory: &[u8], ledger: &[u8], block: u32) -> bool
+    requires { ⌜ Fits (now memory) (now ledger) ⌝ }
+    requires { ⌜ TableInside (levelOf level) (now memory) (now ledger) block ⌝ }
+    ensures { λ r. ⌜ r ≡ inUse (levelOf level) (lent (now (memory .entry)) (now (ledger .entry))) block ⌝ }
+{
+    match level {
+        Level::L1 => is_active(memory, ledger, block),
+        Level::L2 => is_linked(memory, ledger, block),
+    }
+}
+
+// The types of the m blocks from block b on become t, b counted from the region's first.
+pub fn put_types(ledger: &mut [u8], b: usize, m: usize, t: u32)
+    requires { ⌜ InLedger (now ledger) (b + m) ⌝ }
+    ensures { λ r. ⌜ now (ledger .exit) ≡ retype (now (ledger .entry)) b m t ⌝ }
+{
+    for i in 0..m {
+        put_record_word(ledger, TYPE, b + i, t);
+    }
+}
+
+// Refusals 2, 3 and 5: where the table lies, and whether its blocks have type t.
+pub fn table_refusal(level: Level, memory: &[u8], ledger: &[u8], block: u32, t: u32) -> u32
+    requires { ⌜ Fits (now memory) (now ledger) ⌝ }
+    ensures { λ r. ⌜ r ≡ answerOf (tableRefusals (levelOf level) (lent (now (memory .entry)) (now (ledger .entry))) block t) ⌝ }
+{
+    let place = place_refusal(level, memory, ledger, block);
+    if place != ACCEPTED {
+        return place;
+    }
+    if is_other_type(level, memory, ledger, block, t) {
+        return WRONG_TYPE;
+    }
+    ACCEPTED
+}
