@@ -1,0 +1,205 @@
+// The calls as the hypervisor's C code makes them, with numbers and lent bytes. None relies on its caller's checks: each promises, for all inputs, its
+// answer, what is given with it, and every byte of memory and ledger afterwards.
+use entries::entry::Level;
+use mapping::form::Form;
+ghost use mathlib.Core.Path.{_≡_};
+ghost use Rattle.rules.specs.Begin.{beginOutcome};
+ghost use Rattle.entries.specs.Entries.{l1, l2};
+ghost use Rattle.rules.specs.Create.{createOutcome};
+ghost use Rattle.rules.specs.Free.{freeOutcome};
+ghost use Rattle.rules.specs.Guest.{fetches, guestOutcome, reads, writes};
+ghost use Rattle.rules.specs.Link.{linkOutcome};
+ghost use Rattle.rules.specs.Map.{mapOutcome};
+ghost use Rattle.rules.specs.Store.{lent};
+ghost use Rattle.rules.specs.Switch.{switchOutcome};
+ghost use Rattle.rules.specs.Tables.{pages, sections};
+ghost use Rattle.rules.specs.Unmap.{unmapOutcome};
+
+// Begin with the region's first block.
+#[no_mangle]
+pub extern "C" fn pagemon_begin(memory: &[u8], ledger: &mut [u8], first: u32) -> u32
+    ensures { λ r. ⌜ r ≡ beginOutcome (lent (now (memory .entry)) (now (ledger .entry))) first .answer ⌝ }
+    ensures { λ r. ⌜ lent (now (memory .entry)) (now (ledger .exit)) ≡ beginOutcome (lent (now (memory .entry)) (now (ledger .entry))) first .after ⌝ }
+{
+    tables::begin::begin(memory, ledger, first)
+}
+
+// Create L1: the four blocks from a block become an L1 table, with the entries that its bytes hold.
+#[no_mangle]
+pub extern "C" fn pagemon_create_l1(
+    memory: &[u8],
+    ledger: &mut [u8],
+    golden: &[u8],
+    block: u32,
+) -> u32
+    ensures { λ r. ⌜ r ≡ createOutcome l1 (now (golden .entry)) (lent (now (memory .entry)) (now (ledger .entry))) block .answer ⌝ }
+    ensures { λ r. ⌜ lent (now (memory .entry)) (now (ledger .exit)) ≡ createOutcome l1 (now (golden .entry)) (lent (now (memory .entry)) (now (ledger .entry))) block .after ⌝ }
+{
+    tables::create::create(Level::L1, memory, ledger, golden, block)
+}
+
+// Create L2: a block becomes an L2 block, with the entries that its bytes hold.
+#[no_mangle]
+pub extern "C" fn pagemon_create_l2(
+    memory: &[u8],
+    ledger: &mut [u8],
+    golden: &[u8],
+    block: u32,
+) -> u32
+    ensures { λ r. ⌜ r ≡ createOutcome l2 (now (golden .entry)) (lent (now (memory .entry)) (now (ledger .entry))) block .answer ⌝ }
+    ensures { λ r. ⌜ lent (now (memory .entry)) (now (ledger .exit)) ≡ createOutcome l2 (now (golden .entry)) (lent (now (memory .entry)) (now (ledger .entry))) block .after ⌝ }
+{
+    tables::create::create(Level::L2, memory, ledger, golden, block)
+}
+
+// Free L1: the table's blocks become data.
+#[no_mangle]
+pub extern "C" fn pagemon_free_l1(memory: &[u8], ledger: &mut [u8], block: u32) -> u32
+    ensures { λ r. ⌜ r ≡ freeOutcome l1 (lent (now (memory .entry)) (now (ledger .entry))) block .answer ⌝ }
+    ensures { λ r. ⌜ lent (now (memory .entry)) (now (ledger .exit)) ≡ freeOutcome l1 (lent (now (memory .entry)) (now (ledger .entry))) block .after ⌝ }
+{
+    tables::free::free(Level::L1, memory, ledger, block)
+}
+
+// Free L2: the table's blocks become data.
+#[no_mangle]
+pub extern "C" fn pagemon_free_l2(memory: &[u8], ledger: &mut [u8], block: u32) -> u32
+    ensures { λ r. ⌜ r ≡ freeOutcome l2 (lent (now (memory .entry)) (now (ledger .entry))) block .answer ⌝ }
+    ensures { λ r. ⌜ lent (now (memory .entry)) (now (ledger .exit)) ≡ freeOutcome l2 (lent (now (memory .entry)) (now (ledger .entry))) block .after ⌝ }
+{
+    tables::free::free(Level::L2, memory, ledger, block)
+}
+
+// Map L1: a section of 256 blocks with these rights, at an index of a table.
+#[no_mangle]
+pub extern "C" fn pagemon_map_l1(
+    memory: &mut [u8],
+    ledger: &mut [u8],
+    golden: &[u8],
+    block: u32,
+    index: u32,
+    target: u32,
+    rights: u32,
+) -> u32
+    ensures { λ r. ⌜ r ≡ mapOutcome sections (now (golden .entry)) (lent (now (memory .entry)) (now (ledger .entry))) block index target rights .answer ⌝ }
+    ensures { λ r. ⌜ lent (now (memory .exit)) (now (ledger .exit)) ≡ mapOutcome sections (now (golden .entry)) (lent (now (memory .entry)) (now (ledger .entry))) block index target rights .after ⌝ }
+{
+    mapping::map::map(
+        Form::Sections,
+        memory,
+        ledger,
+        golden,
+        block,
+        index,
+        target,
+        rights,
+    )
+}
+
+// Map L2: a page with these rights, at an index of a table.
+#[no_mangle]
+pub extern "C" fn pagemon_map_l2(
+    memory: &mut [u8],
+    ledger: &mut [u8],
+    golden: &[u8],
+    block: u32,
+    index: u32,
+    target: u32,
+    rights: u32,
+) -> u32
+    ensures { λ r. ⌜ r ≡ mapOutcome pages (now (golden .entry)) (lent (now (memory .entry)) (now (ledger .entry))) block index target rights .answer ⌝ }
+    ensures { λ r. ⌜ lent (now (memory .exit)) (now (ledger .exit)) ≡ mapOutcome pages (now (golden .entry)) (lent (now (memory .entry)) (now (ledger .entry))) block index target rights .after ⌝ }
+{
+    mapping::map::map(
+        Form::Pages,
+        memory,
+        ledger,
+        golden,
+        block,
+        index,
+        target,
+        rights,
+    )
+}
+
+// Link: an L2 table, at an index of an L1 table.
+#[no_mangle]
+pub extern "C" fn pagemon_link(
+    memory: &mut [u8],
+    ledger: &mut [u8],
+    block: u32,
+    index: u32,
+    target: u32,
+    table: u32,
+) -> u32
+    ensures { λ r. ⌜ r ≡ linkOutcome (lent (now (memory .entry)) (now (ledger .entry))) block index target table .answer ⌝ }
+    ensures { λ r. ⌜ lent (now (memory .exit)) (now (ledger .exit)) ≡ linkOutcome (lent (now (memory .entry)) (now (ledger .entry))) block index target table .after ⌝ }
+{
+    mapping::link::link(memory, ledger, block, index, target, table)
+}
+
+// Unmap L1: the entry at an index of a table becomes a fault.
+#[no_mangle]
+pub extern "C" fn pagemon_unmap_l1(
+    memory: &mut [u8],
+    ledger: &mut [u8],
+    block: u32,
+    index: u32,
+) -> u32
+    ensures { λ r. ⌜ r ≡ unmapOutcome sections (lent (now (memory .entry)) (now (ledger .entry))) block index .answer ⌝ }
+    ensures { λ r. ⌜ lent (now (memory .exit)) (now (ledger .exit)) ≡ unmapOutcome sections (lent (now (memory .entry)) (now (ledger .entry))) block index .after ⌝ }
+{
+    mapping::unmap::unmap(Form::Sections, memory, ledger, block, index)
+}
+
+// Unmap L2: the entry at an index of a table becomes a fault.
+#[no_mangle]
+pub extern "C" fn pagemon_unmap_l2(
+    memory: &mut [u8],
+    ledger: &mut [u8],
+    block: u32,
+    index: u32,
+) -> u32
+    ensures { λ r. ⌜ r ≡ unmapOutcome pages (lent (now (memory .entry)) (now (ledger .entry))) block index .answer ⌝ }
+    ensures { λ r. ⌜ lent (now (memory .exit)) (now (ledger .exit)) ≡ unmapOutcome pages (lent (now (memory .entry)) (now (ledger .entry))) block index .after ⌝ }
+{
+    mapping::unmap::unmap(Form::Pages, memory, ledger, block, index)
+}
+
+// Switch to an L1 block.
+#[no_mangle]
+pub extern "C" fn pagemon_switch(memory: &[u8], ledger: &mut [u8], block: u32) -> u32
+    ensures { λ r. ⌜ r ≡ switchOutcome (lent (now (memory .entry)) (now (ledger .entry))) block .answer ⌝ }
+    ensures { λ r. ⌜ lent (now (memory .entry)) (now (ledger .exit)) ≡ switchOutcome (lent (now (memory .entry)) (now (ledger .entry))) block .after ⌝ }
+{
+    mapping::switch::switch(memory, ledger, block)
+}
+
+// The guest reads the byte at an address.
+#[no_mangle]
+pub extern "C" fn pagemon_read(memory: &[u8], ledger: &[u8], address: u32, byte: &mut u8) -> u32
+    ensures { λ r. ⌜ r ≡ guestOutcome reads (lent (now (memory .entry)) (now (ledger .entry))) address .answer ⌝ }
+    ensures { λ r. ⌜ now (byte .exit) ≡ guestOutcome reads (lent (now (memory .entry)) (now (ledger .entry))) address .byte ⌝ }
+    ensures { λ r. ⌜ lent (now (memory .entry)) (now (ledger .entry)) ≡ guestOutcome reads (lent (now (memory .entry)) (now (ledger .entry))) address .after ⌝ }
+{
+    guest::access::read(memory, ledger, address, byte)
+}
+
+// The guest fetches the byte at an address, to execute it.
+#[no_mangle]
+pub extern "C" fn pagemon_fetch(memory: &[u8], ledger: &[u8], address: u32, byte: &mut u8) -> u32
+    ensures { λ r. ⌜ r ≡ guestOutcome fetches (lent (now (memory .entry)) (now (ledger .entry))) address .answer ⌝ }
+    ensures { λ r. ⌜ now (byte .exit) ≡ guestOutcome fetches (lent (now (memory .entry)) (now (ledger .entry))) address .byte ⌝ }
+    ensures { λ r. ⌜ lent (now (memory .entry)) (now (ledger .entry)) ≡ guestOutcome fetches (lent (now (memory .entry)) (now (ledger .entry))) address .after ⌝ }
+{
+    guest::access::fetch(memory, ledger, address, byte)
+}
+
+// The guest writes a byte at an address.
+#[no_mangle]
+pub extern "C" fn pagemon_write(memory: &mut [u8], ledger: &[u8], address: u32, byte: u32) -> u32
+    ensures { λ r. ⌜ r ≡ guestOutcome (writes byte) (lent (now (memory .entry)) (now (ledger .entry))) address .answer ⌝ }
+    ensures { λ r. ⌜ lent (now (memory .exit)) (now (ledger .entry)) ≡ guestOutcome (writes byte) (lent (now (memory .entry)) (now (ledger .entry))) address .after ⌝ }
+{
+    guest::access::write(memory, ledger, address, byte)
+}

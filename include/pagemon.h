@@ -1,0 +1,153 @@
+/*
+ * The paging monitor, as libmonitor.a exports it.
+ *
+ * Buffers. The caller lends up to three byte buffers for the time of one call, each as a pointer and its length in bytes:
+ *
+ *   memory   n blocks of PAGEMON_BLOCK_BYTES, n from PAGEMON_MIN_BLOCKS to PAGEMON_MAX_BLOCKS: the physical memory of the region.
+ *   ledger   PAGEMON_LEDGER_BYTES(n) bytes, kept by the monitor. Its words are little-endian: the region's first block number B, the active
+ *            L1 table's first block (PAGEMON_NO_TABLE for none), then for each block four words: type, w, x, l. w counts the table entries
+ *            that let the guest write to this block, x those that let it execute, l the links to it from L1 tables.
+ *   golden   the golden image: 0 to PAGEMON_MAX_DIGESTS SHA-256 digests of PAGEMON_DIGEST_BYTES, end to end, in any order.
+ *
+ * No two buffers of a call share a byte, and nothing else writes them during the call. No pointer is NULL, also where the length is 0. Any alignment will do. Any lengths and any contents
+ * are safe to lend: a buffer that breaks the rules is refused (PAGEMON_MISFIT) or judged as it stands.
+ *
+ * Answers. Each call returns 0 (PAGEMON_ACCEPTED) or the lowest refusal number that applies to it. A refused call changes no byte of any buffer. An
+ * accepted one changes only what its comment names; every other byte stays as it was. A buffer that a call cannot change is const.
+ *
+ * Numbers. Blocks are physical block numbers (address / 4096): the region is B to B + n - 1, B is a multiple of PAGEMON_SECTION_BLOCKS and
+ * B + n is at most 2^20. An L1 table is four blocks, the first a multiple of 4, with 4,096 entries. An L2 block holds four L2 tables; its index
+ * is 256 * table + entry. The holder of an entry is the one block that contains its word.
+ */
+#ifndef PAGEMON_H
+#define PAGEMON_H
+
+#include <stddef.h>
+#include <stdint.h>
+
+#ifdef __cplusplus
+extern "C" {
+#endif
+
+/* Sizes and limits. */
+#define PAGEMON_BLOCK_BYTES 4096u          /* bytes of a block */
+#define PAGEMON_MIN_BLOCKS 8u              /* fewest blocks of a region */
+#define PAGEMON_MAX_BLOCKS 4096u           /* most blocks of a region */
+#define PAGEMON_SECTION_BLOCKS 256u        /* blocks of a section; B and section targets are multiples of it */
+#define PAGEMON_L1_BLOCKS 4u               /* blocks of an L1 table */
+#define PAGEMON_L1_ENTRIES 4096u           /* entries of an L1 table */
+#define PAGEMON_L2_ENTRIES 1024u           /* entries of an L2 block: four tables of 256 */
+#define PAGEMON_LEDGER_HEAD_BYTES 8u       /* bytes of the ledger before its first record: B, active */
+#define PAGEMON_LEDGER_RECORD_BYTES 16u    /* bytes of a block's record: type, w, x, l */
+#define PAGEMON_DIGEST_BYTES 32u           /* bytes of a digest in the golden image */
+#define PAGEMON_MAX_DIGESTS 1024u          /* most digests of a golden image */
+#define PAGEMON_MAX_COUNT 4194304u         /* the highest lawful counter, 2^22 */
+#define PAGEMON_NO_TABLE 0xFFFFFFFFu       /* the active word when no table is in use */
+
+/* The ledger's length for a memory of `blocks` blocks. */
+#define PAGEMON_LEDGER_BYTES(blocks) (PAGEMON_LEDGER_HEAD_BYTES + PAGEMON_LEDGER_RECORD_BYTES * (size_t)(blocks))
+
+/* Rights of a mapping, added up. Maps take 0, READ, READ + WRITE and READ + EXECUTE. */
+enum {
+    PAGEMON_READ = 1,
+    PAGEMON_WRITE = 2,
+    PAGEMON_EXECUTE = 4
+};
+
+/* The type word of a block's record. */
+enum {
+    PAGEMON_TYPE_DATA = 0,
+    PAGEMON_TYPE_L1 = 1,
+    PAGEMON_TYPE_L2 = 2
+};
+
+/* Answers. */
+enum {
+    PAGEMON_ACCEPTED = 0,            /* accepted */
+    PAGEMON_MISFIT = 1,              /* a buffer's length or the first block number B breaks the rules; in create and map also the golden image's length */
+    PAGEMON_OUTSIDE_REGION = 2,      /* the block is outside the region, for an L1 table any of its four */
+    PAGEMON_MISALIGNED = 3,          /* an L1 table's block is not a multiple of 4, or a section's target not of 256 */
+    PAGEMON_BEYOND_TABLE = 4,        /* the index is too large; in link also a table above 3 */
+    PAGEMON_WRONG_TYPE = 5,          /* the block is not of the needed type, for an L1 table any of its four */
+    PAGEMON_IN_USE = 6,              /* create: a counter of the blocks is above 0; free: the table is active (L1) or linked (L2) */
+    PAGEMON_EXECUTABLE_HOLDER = 7,   /* the block that holds the entry has x above 0 */
+    PAGEMON_WRONG_ENTRY = 8,         /* map, link: the entry is not a fault; create, free, unmap: an entry is not of an accepted form */
+    PAGEMON_UNLAWFUL_RIGHTS = 9,     /* rights above 7, or write or execute without read */
+    PAGEMON_UNFIT_TARGET = 10,       /* a place is not wholly in the region; a link's block is not L2; a target to be written is not data, or is a block that create types; a target to be executed includes the holder */
+    PAGEMON_CLASH = 11,              /* a target would be both writable and executable */
+    PAGEMON_UNSIGNED = 12,           /* a target to be executed is not signed by the golden image */
+    PAGEMON_OVERRUN = 13,            /* a counter that the call alters would end below 0 or above PAGEMON_MAX_COUNT */
+    PAGEMON_NO_ACTIVE_TABLE = 21,    /* guest: the active word is not the first of four region blocks, a multiple of 4 */
+    PAGEMON_FAULT_ENTRY = 22,        /* guest: the walk meets a fault entry */
+    PAGEMON_RIGHT_LACKING = 23,      /* guest: the walk ends, and the right is lacking */
+    PAGEMON_BROKEN_WALK = 24         /* guest: the walk meets an entry that is not of an accepted form or whose place is not wholly in the region */
+};
+
+/*
+ * Starts a region whose first block is `first_block`. Refusal: 1, with `first_block` in the place of the ledger's B.
+ * Writes the ledger: B, no active table, and every type and counter 0.
+ */
+uint32_t pagemon_begin(const uint8_t *memory, size_t memory_length, uint8_t *ledger, size_t ledger_length, uint32_t first_block);
+
+/*
+ * Makes the four blocks from `block` an L1 table, or `block` an L2 block, with the entries that its bytes hold. Refusals: 1, 2, 3 (L1), 5, 6,
+ * 8, 10, 11, 12, 13. Writes the ledger: the types of these blocks, and the counters of what the entries give.
+ */
+uint32_t pagemon_create_l1(const uint8_t *memory, size_t memory_length, uint8_t *ledger, size_t ledger_length, const uint8_t *golden,
+                           size_t golden_length, uint32_t block);
+uint32_t pagemon_create_l2(const uint8_t *memory, size_t memory_length, uint8_t *ledger, size_t ledger_length, const uint8_t *golden,
+                           size_t golden_length, uint32_t block);
+
+/*
+ * Makes the blocks of a table data again; the bytes remain. Refusals: 1, 2, 3 (L1), 5, 6, 8, 10, 13. Writes the ledger: the types of these
+ * blocks, and the counters, which lose the table's entries.
+ */
+uint32_t pagemon_free_l1(const uint8_t *memory, size_t memory_length, uint8_t *ledger, size_t ledger_length, uint32_t block);
+uint32_t pagemon_free_l2(const uint8_t *memory, size_t memory_length, uint8_t *ledger, size_t ledger_length, uint32_t block);
+
+/*
+ * Maps a section of 256 blocks from `target` (L1), or the page `target` (L2), at `index` of the table, where a fault entry must stand.
+ * Refusals: 1, 2, 3 (L1), 4, 5, 7, 8, 9, 10, 11, 12, 13. Writes the entry's word in memory and the target's counters in the ledger.
+ */
+uint32_t pagemon_map_l1(uint8_t *memory, size_t memory_length, uint8_t *ledger, size_t ledger_length, const uint8_t *golden,
+                        size_t golden_length, uint32_t block, uint32_t index, uint32_t target, uint32_t rights);
+uint32_t pagemon_map_l2(uint8_t *memory, size_t memory_length, uint8_t *ledger, size_t ledger_length, const uint8_t *golden,
+                        size_t golden_length, uint32_t block, uint32_t index, uint32_t target, uint32_t rights);
+
+/*
+ * Links L2 table `table` (0 to 3) of the L2 block `target` at `index` of the L1 table, where a fault entry must stand. Refusals: 1, 2, 3, 4, 5,
+ * 7, 8, 10, 13. Writes the entry's word in memory and the target's l in the ledger.
+ */
+uint32_t pagemon_link(uint8_t *memory, size_t memory_length, uint8_t *ledger, size_t ledger_length, uint32_t block, uint32_t index,
+                      uint32_t target, uint32_t table);
+
+/*
+ * Takes away the entry at `index` of the table. Refusals: 1, 2, 3 (L1), 4, 5, 7, 8, 10, 13. Writes 0 over the entry's word in memory, a fault
+ * entry's too, and lowers the counters of what the entry gave in the ledger.
+ */
+uint32_t pagemon_unmap_l1(uint8_t *memory, size_t memory_length, uint8_t *ledger, size_t ledger_length, uint32_t block, uint32_t index);
+uint32_t pagemon_unmap_l2(uint8_t *memory, size_t memory_length, uint8_t *ledger, size_t ledger_length, uint32_t block, uint32_t index);
+
+/* Makes the L1 table at `block` the active one. Refusals: 1, 2, 3, 5. Writes the ledger's active word. */
+uint32_t pagemon_switch(const uint8_t *memory, size_t memory_length, uint8_t *ledger, size_t ledger_length, uint32_t block);
+
+/*
+ * The guest reads, or fetches as an instruction, the byte at a virtual address, through the active table. Refusals: 1, 21, then along the walk
+ * 22, 23, 24. Every call sets `*byte`: the byte, or 0 when refused. `byte` points into none of the buffers. No buffer changes.
+ */
+uint32_t pagemon_read(const uint8_t *memory, size_t memory_length, const uint8_t *ledger, size_t ledger_length, uint32_t address,
+                      uint8_t *byte);
+uint32_t pagemon_fetch(const uint8_t *memory, size_t memory_length, const uint8_t *ledger, size_t ledger_length, uint32_t address,
+                       uint8_t *byte);
+
+/*
+ * The guest writes the low 8 bits of `byte` at a virtual address, through the active table. Refusals: 1, 21, then along the walk 22, 23, 24.
+ * Writes that one byte of memory.
+ */
+uint32_t pagemon_write(uint8_t *memory, size_t memory_length, const uint8_t *ledger, size_t ledger_length, uint32_t address, uint32_t byte);
+
+#ifdef __cplusplus
+}
+#endif
+
+#endif
