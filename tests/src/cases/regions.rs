@@ -1,0 +1,146 @@
+//! The rules on lengths and B, for every call: sizes at all edges, B at its edges, buffers that are too short or too long.
+use super::scene::*;
+use super::Case;
+use crate::bytes::put_word;
+use crate::compare::{Comparer, Outcome};
+use crate::monitor::{Kind, BLOCK};
+use crate::random::Random;
+use std::rc::Rc;
+use Kind::*;
+
+/// A call that is accepted, as far as the region's size allows: an L1 table in blocks 0 to 3 with a link to the L2 block 4, which has a writable
+/// page (block 5) and an executable one (block 6).
+pub fn valid(kind: Kind, first: u32, blocks: usize) -> Case {
+    let mut scene = Scene::new(first, blocks);
+    let mut random = Random::new(blocks as u64);
+    scene.fill(5, &mut random);
+    scene.fill(6, &mut random);
+    scene.sign(6);
+    scene.put(0, 0, scene.link(4, 0));
+    scene.put(4, 0, scene.mapping(5, PAGE_WRITE));
+    scene.put(4, 1, scene.mapping(6, PAGE_EXECUTE));
+    if kind != CreateL1 {
+        scene.set_types(0..4, 1);
+        scene.activate(0);
+    }
+    if kind != CreateL2 {
+        scene.set_types(4..5, 2);
+        scene.set_record(5, W, 1);
+        scene.set_record(6, X, 1);
+    }
+    if !matches!(kind, CreateL1 | CreateL2 | FreeL2) {
+        scene.set_record(4, L, 1);
+    }
+    if matches!(kind, FreeL1 | Switch) {
+        scene.set_active(crate::monitor::NO_TABLE);
+    }
+    let (table, page_table) = (scene.block(0), scene.block(4));
+    let arguments: &[u32] = match kind {
+        Begin => &[first],
+        CreateL1 | FreeL1 | Switch => &[table],
+        CreateL2 | FreeL2 => &[page_table],
+        MapL1 => &[table, 7, first, 1],
+        MapL2 => &[page_table, 9, scene.block(5), 3],
+        Link => &[table, 9, page_table, 3],
+        UnmapL1 => &[table, 0],
+        UnmapL2 => &[page_table, 0],
+        Read | Write => &[0x123, 0x5A],
+        Fetch => &[0x1FFF],
+    };
+    let answer = if kind == MapL1 && blocks < 256 { 10 } else { 0 };
+    scene.expect(&format!("{blocks} blocks from {first:#x}"), kind, &arguments[..kind.arity()], answer)
+}
+
+/// The highest B for this many blocks.
+fn top(blocks: usize) -> u32 {
+    ((1 << 20) - blocks as u32) & !255
+}
+
+pub fn small(kind: Kind, comparer: &mut Comparer) -> Outcome {
+    sizes(kind, comparer, &[8, 9, 16])?;
+    wrong_lengths(kind, comparer)?;
+    if kind == Begin {
+        stored_first_block(comparer)?;
+    }
+    Ok(())
+}
+
+pub fn large(kind: Kind, comparer: &mut Comparer) -> Outcome {
+    sizes(kind, comparer, &[255, 256, 257, 512])?;
+    comparer.check(valid(kind, top(4096), 4096))?;
+    comparer.check(valid(kind, 0, 4096))?;
+    comparer.check(refused(valid(kind, 0, 4097)))
+}
+
+fn refused(case: Case) -> Case {
+    Case { expected: Some(1), ..case }
+}
+
+/// Regions of these sizes, with B at its edges.
+fn sizes(kind: Kind, comparer: &mut Comparer, sizes: &[usize]) -> Outcome {
+    for &blocks in sizes {
+        for first in [0, 0x100, 0x7FF00, top(blocks)] {
+            comparer.check(valid(kind, first, blocks))?;
+        }
+        let beyond = top(blocks) + 256;
+        for first in [1, 4, 0x80, 255, 257, beyond, beyond - 1, 1 << 20, 1 << 31, 0u32.wrapping_sub(256), u32::MAX] {
+            comparer.check(refused(valid(kind, first, blocks)))?;
+        }
+    }
+    Ok(())
+}
+
+fn wrong_lengths(kind: Kind, comparer: &mut Comparer) -> Outcome {
+    for blocks in [0, 1, 4, 7] {
+        comparer.check(refused(valid(kind, 0x100, blocks)))?;
+    }
+    for (blocks, first) in [(8, 0), (16, 0x100)] {
+        let case = valid(kind, first, blocks);
+        let (memory, ledger) = (case.store.memory.len(), case.store.ledger.len());
+        let lengths = [
+            (memory, ledger - 1),
+            (memory, ledger + 1),
+            (memory, ledger - 16),
+            (memory, ledger + 16),
+            (memory, ledger - 8),
+            (memory, 2 * ledger),
+            (memory, 0),
+            (memory, 3),
+            (memory, 8),
+            (memory - 1, ledger),
+            (memory + 1, ledger),
+            (memory - 1, ledger - 16),
+            (memory + BLOCK - 1, ledger),
+            (memory + BLOCK - 1, ledger + 16),
+            (memory + BLOCK, ledger),
+            (memory - BLOCK, ledger),
+            (memory + 16, ledger),
+            (0, ledger),
+            (0, 8),
+            (0, 0),
+            (1, 8),
+        ];
+        for (memory, ledger) in lengths {
+            let mut other = refused(case.clone());
+            other.name = format!("memory of {memory} bytes, ledger of {ledger}");
+            Rc::make_mut(&mut other.store.memory).resize(memory, 0);
+            other.store.ledger.resize(ledger, 0);
+            comparer.check(other)?;
+        }
+    }
+    Ok(())
+}
+
+/// Begin looks at the B that it is given, not at the stored one.
+fn stored_first_block(comparer: &mut Comparer) -> Outcome {
+    for stored in [1, 255, 0x200, 1 << 20, u32::MAX] {
+        for given in [0, 0x100, 0x80, 1 << 20] {
+            let mut case = valid(Begin, 0x100, 16);
+            put_word(&mut case.store.ledger, 0, stored);
+            case.call.arguments[0] = given;
+            let answer = u32::from(given == 0x80 || given == 1 << 20);
+            comparer.check(Case { expected: Some(answer), ..case })?;
+        }
+    }
+    Ok(())
+}

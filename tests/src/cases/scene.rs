@@ -1,0 +1,123 @@
+//! Building the buffers of a case.
+use super::Case;
+use crate::bytes::{put_word, word};
+use crate::hasher::digest;
+use crate::monitor::{own, Call, Kind, Store, BLOCK, LEDGER_HEAD, LEDGER_RECORD, NO_TABLE};
+use crate::random::Random;
+use std::rc::Rc;
+
+pub const TYPE: usize = 0;
+pub const W: usize = 1;
+pub const X: usize = 2;
+pub const L: usize = 3;
+
+/// Low bits of entries that give nothing, read, read and write, read and execute, or all three.
+pub const PAGE_NONE: u32 = 0x01F;
+pub const PAGE_READ: u32 = 0x02F;
+pub const PAGE_WRITE: u32 = 0x03F;
+pub const PAGE_EXECUTE: u32 = 0x02E;
+pub const PAGE_ALL: u32 = 0x03E;
+pub const SECTION_NONE: u32 = 0x41E;
+pub const SECTION_READ: u32 = 0x81E;
+pub const SECTION_WRITE: u32 = 0xC1E;
+pub const SECTION_EXECUTE: u32 = 0x80E;
+pub const SECTION_ALL: u32 = 0xC0E;
+
+/// A region in the making. Blocks are counted from the region's start.
+#[derive(Clone)]
+pub struct Scene {
+    pub first: u32,
+    pub store: Store,
+}
+
+impl Scene {
+    /// Memory of zeros, and the ledger that begin leaves.
+    pub fn new(first: u32, blocks: usize) -> Scene {
+        let mut ledger = vec![0; LEDGER_HEAD + LEDGER_RECORD * blocks];
+        put_word(&mut ledger, 0, first);
+        put_word(&mut ledger, 4, NO_TABLE);
+        Scene { first, store: Store { memory: Rc::new(vec![0; BLOCK * blocks]), ledger, golden: Vec::new() } }
+    }
+
+    pub fn blocks(&self) -> usize {
+        self.store.memory.len() / BLOCK
+    }
+
+    /// The physical number of a block.
+    pub fn block(&self, position: usize) -> u32 {
+        self.first.wrapping_add(position as u32)
+    }
+
+    /// A word of a block's record: TYPE, W, X or L.
+    pub fn record(&self, position: usize, which: usize) -> u32 {
+        word(&self.store.ledger, LEDGER_HEAD + LEDGER_RECORD * position + 4 * which)
+    }
+
+    pub fn set_record(&mut self, position: usize, which: usize, value: u32) {
+        put_word(&mut self.store.ledger, LEDGER_HEAD + LEDGER_RECORD * position + 4 * which, value);
+    }
+
+    pub fn set_types(&mut self, positions: std::ops::Range<usize>, code: u32) {
+        for position in positions {
+            self.set_record(position, TYPE, code);
+        }
+    }
+
+    pub fn set_active(&mut self, word: u32) {
+        put_word(&mut self.store.ledger, 4, word);
+    }
+
+    /// Makes the L1 table at this position the active one.
+    pub fn activate(&mut self, position: usize) {
+        self.set_active(self.block(position));
+    }
+
+    pub fn put(&mut self, position: usize, index: usize, word: u32) {
+        put_word(own(&mut self.store.memory), BLOCK * position + 4 * index, word);
+    }
+
+    pub fn word(&self, position: usize, index: usize) -> u32 {
+        word(&self.store.memory, BLOCK * position + 4 * index)
+    }
+
+    pub fn put_byte(&mut self, position: usize, offset: usize, byte: u8) {
+        if let Some(place) = own(&mut self.store.memory).get_mut(BLOCK * position + offset) {
+            *place = byte;
+        }
+    }
+
+    /// The word of a page or section at this block.
+    pub fn mapping(&self, position: usize, low: u32) -> u32 {
+        (self.block(position) << 12) + low
+    }
+
+    pub fn link(&self, position: usize, table: u32) -> u32 {
+        (self.block(position) << 12) + (table << 10) + 1
+    }
+
+    pub fn fill(&mut self, position: usize, random: &mut Random) {
+        if let Some(block) = own(&mut self.store.memory).get_mut(BLOCK * position..BLOCK * (position + 1)) {
+            block.copy_from_slice(&random.bytes(BLOCK));
+        }
+    }
+
+    /// Adds the block's digest to the golden image.
+    pub fn sign(&mut self, position: usize) {
+        if let Some(block) = self.store.memory.get(BLOCK * position..BLOCK * (position + 1)) {
+            self.store.golden.extend_from_slice(&digest(block));
+        }
+    }
+
+    pub fn case(&self, name: &str, kind: Kind, arguments: &[u32]) -> Case {
+        Case { name: name.to_string(), call: Call::new(kind, arguments), store: self.store.clone(), expected: None }
+    }
+
+    pub fn expect(&self, name: &str, kind: Kind, arguments: &[u32], answer: u32) -> Case {
+        Case { expected: Some(answer), ..self.case(name, kind, arguments) }
+    }
+}
+
+/// The zero block's digest.
+pub fn zero_digest() -> [u8; 32] {
+    digest(&[0; BLOCK])
+}

@@ -1,0 +1,103 @@
+//! Candidate and reference side by side: the answer, the byte given, and every byte of memory and ledger.
+use crate::cases::Case;
+use crate::monitor::{perform, Call, Given, Kind, Monitor, Store, BLOCK};
+use crate::reference::Reference;
+use std::collections::{BTreeMap, BTreeSet};
+use std::fmt;
+use std::panic::{catch_unwind, AssertUnwindSafe};
+use std::rc::Rc;
+
+/// What was compared for one call.
+#[derive(Default)]
+pub struct Tally {
+    pub cases: usize,
+    pub accepted: usize,
+    /// The answers given.
+    pub answers: BTreeSet<u32>,
+    /// Pairs of refusals that applied together, the first of them being the answer.
+    pub pairs: BTreeSet<(u32, u32)>,
+}
+
+/// The first difference found.
+pub struct Difference {
+    pub case: String,
+    pub call: Call,
+    pub what: String,
+}
+
+impl fmt::Display for Difference {
+    fn fmt(&self, f: &mut fmt::Formatter) -> fmt::Result {
+        write!(f, "{} ({}): {}", self.call, self.case, self.what)
+    }
+}
+
+pub type Outcome<T = ()> = Result<T, Difference>;
+
+pub struct Comparer<'a> {
+    pub candidate: &'a dyn Monitor,
+    pub reference: &'a Reference,
+    /// Are all refusals that apply noted, not only the answer?
+    pub pairs: bool,
+    pub tallies: BTreeMap<Kind, Tally>,
+}
+
+impl<'a> Comparer<'a> {
+    pub fn new(candidate: &'a dyn Monitor, reference: &'a Reference, pairs: bool) -> Self {
+        Comparer { candidate, reference, pairs, tallies: BTreeMap::new() }
+    }
+
+    /// Runs one case on both and compares; the case's own expectation is held against the candidate.
+    pub fn check(&mut self, case: Case) -> Outcome {
+        let Case { name, call, mut store, expected } = case;
+        let given = self.step(&name, call, &mut store)?;
+        match expected {
+            Some(answer) if answer != given.answer => {
+                Err(difference(&name, call, format!("answer {}, expected {answer}", given.answer)))
+            }
+            _ => Ok(()),
+        }
+    }
+
+    /// Runs a call on both and compares. The store is then what the candidate left.
+    pub fn step(&mut self, name: &str, call: Call, store: &mut Store) -> Outcome<Given> {
+        let reasons = if self.pairs { self.reference.reasons(call, store) } else { Vec::new() };
+        let mut other = store.clone();
+        let expected = perform(self.reference, call, &mut other);
+        let given = catch_unwind(AssertUnwindSafe(|| perform(self.candidate, call, store)))
+            .map_err(|_| difference(name, call, "a rule on buffers was broken".to_string()))?;
+        let tally = self.tallies.entry(call.kind).or_default();
+        tally.cases += 1;
+        tally.accepted += usize::from(given.answer == 0);
+        tally.answers.insert(given.answer);
+        tally.pairs.extend(reasons.iter().skip(1).map(|other| (reasons[0], *other)));
+        match compared(given, expected, store, &other) {
+            Some(what) => Err(difference(name, call, what)),
+            None => Ok(given),
+        }
+    }
+}
+
+pub fn difference(case: &str, call: Call, what: String) -> Difference {
+    Difference { case: case.to_string(), call, what }
+}
+
+fn compared(given: Given, expected: Given, store: &Store, other: &Store) -> Option<String> {
+    if given.answer != expected.answer {
+        return Some(format!("answer {}, reference {}", given.answer, expected.answer));
+    }
+    if given.byte != expected.byte {
+        return Some(format!("byte {:#x}, reference {:#x}", given.byte, expected.byte));
+    }
+    let shared = Rc::ptr_eq(&store.memory, &other.memory);
+    let memory = if shared { None } else { differing("memory", BLOCK, &store.memory, &other.memory) };
+    memory.or_else(|| differing("ledger", store.ledger.len(), &store.ledger, &other.ledger))
+}
+
+fn differing(what: &str, unit: usize, given: &[u8], expected: &[u8]) -> Option<String> {
+    if given == expected {
+        return None;
+    }
+    let at = given.iter().zip(expected).position(|(a, b)| a != b)?;
+    let (unit, mine, theirs) = (unit.max(1), given[at], expected[at]);
+    Some(format!("{what} byte {at} (part {}, byte {}) is {mine:#x}, reference {theirs:#x}", at / unit, at % unit))
+}

@@ -1,0 +1,182 @@
+//! What must hold after every step of a list, by the steps, their answers and the memory's bytes alone. The ledger is looked at only to compare its
+//! w, x and l. Nothing is shared with the reference but SHA-256.
+use crate::hasher::digest;
+use crate::monitor::{Call, Given, Kind, Store, BLOCK};
+
+/// What an entry gives: its blocks, and write, execute or a link.
+struct Gives {
+    first: usize,
+    count: usize,
+    write: bool,
+    execute: bool,
+    link: bool,
+}
+
+/// Read, write for AP 000 to 111, as text of the rule: 'n' nothing, 'r' read, 'w' read and write, '-' not accepted.
+const AP: [u8; 8] = *b"nnrw-nrr";
+
+fn l1_gives(word: u32) -> Option<Gives> {
+    match word % 4 {
+        1 if word / 4 % 256 == 0 => {
+            Some(Gives { first: word as usize / 4096, count: 1, write: false, execute: false, link: true })
+        }
+        2 if word & 0x000C_03E0 == 0 => {
+            let ap = AP[((word >> 13 & 4) + (word >> 10 & 3)) as usize];
+            mapping(word as usize / (1 << 20) * 256, 256, ap, word & 0x10 == 0)
+        }
+        _ => None,
+    }
+}
+
+fn l2_gives(word: u32) -> Option<Gives> {
+    if word & 2 == 0 {
+        return None;
+    }
+    let ap = AP[((word >> 7 & 4) + (word >> 4 & 3)) as usize];
+    mapping(word as usize / 4096, 1, ap, word % 2 == 0)
+}
+
+fn mapping(first: usize, count: usize, ap: u8, may_execute: bool) -> Option<Gives> {
+    let execute = may_execute && (ap == b'r' || ap == b'w');
+    (ap != b'-').then_some(Gives { first, count, write: ap == b'w', execute, link: false })
+}
+
+fn word(bytes: &[u8], index: usize) -> u32 {
+    (0..4).map(|k| u32::from(bytes[4 * index + k]) << (8 * k)).sum()
+}
+
+/// What the steps and answers since the last accepted begin tell.
+pub struct Told {
+    pub first: usize,
+    /// 0, 1 or 2 for each block: no table, L1, L2.
+    pub tables: Vec<u8>,
+    /// The table of the last accepted switch.
+    pub switched: Option<usize>,
+}
+
+impl Told {
+    /// After an accepted begin with this B.
+    pub fn new(first: u32, blocks: usize) -> Told {
+        let first = first as usize;
+        Told { first, tables: vec![0; blocks], switched: None }
+    }
+
+    fn note(&mut self, call: Call) {
+        let at = call.arguments[0] as usize;
+        let mut set = |count: usize, code: u8| self.tables[at - self.first..at - self.first + count].fill(code);
+        match call.kind {
+            Kind::Begin => {
+                self.first = at;
+                self.tables.fill(0);
+                self.switched = None;
+            }
+            Kind::CreateL1 => set(4, 1),
+            Kind::CreateL2 => set(1, 2),
+            Kind::FreeL1 => set(4, 0),
+            Kind::FreeL2 => set(1, 0),
+            Kind::Switch => self.switched = Some(at),
+            _ => {}
+        }
+    }
+
+    /// Holds a step against the demand. `before` is the memory that the step was lent.
+    pub fn step(&mut self, call: Call, given: Given, before: &[u8], store: &Store) -> Result<(), String> {
+        if matches!(call.kind, Kind::Read | Kind::Write | Kind::Fetch) {
+            self.tables_unaltered(before, &store.memory)?;
+        }
+        if call.kind == Kind::Fetch && given.answer == 0 {
+            self.fetched(call.arguments[0] as usize, given.byte, store)?;
+        }
+        if given.answer == 0 {
+            self.note(call);
+        }
+        let counts = self.counts(&store.memory);
+        self.ledger_agrees(&counts, &store.ledger)?;
+        self.never_both(&counts)?;
+        self.executable_is_signed(&counts, store)
+    }
+
+    fn tables_unaltered(&self, before: &[u8], after: &[u8]) -> Result<(), String> {
+        let altered = self.tables.iter().enumerate().find(|(position, code)| {
+            let block = BLOCK * position..BLOCK * (position + 1);
+            **code != 0 && before[block.clone()] != after[block]
+        });
+        altered.map_or(Ok(()), |(position, _)| Err(format!("a guest step altered the table block {position}")))
+    }
+
+    /// w, x and l of each block, read afresh from the tables in memory.
+    fn counts(&self, memory: &[u8]) -> Vec<[u32; 3]> {
+        let mut counts = vec![[0; 3]; self.tables.len()];
+        for (position, code) in self.tables.iter().enumerate().filter(|(_, code)| **code != 0) {
+            let block = &memory[BLOCK * position..BLOCK * (position + 1)];
+            for word in (0..1024).map(|index| word(block, index)).filter(|word| word % 4 != 0) {
+                let Some(gives) = (if *code == 1 { l1_gives(word) } else { l2_gives(word) }) else { continue };
+                for block in gives.first..gives.first + gives.count {
+                    if let Some(count) = block.checked_sub(self.first).and_then(|at| counts.get_mut(at)) {
+                        count[0] += u32::from(gives.write);
+                        count[1] += u32::from(gives.execute);
+                        count[2] += u32::from(gives.link);
+                    }
+                }
+            }
+        }
+        counts
+    }
+
+    fn ledger_agrees(&self, counts: &[[u32; 3]], ledger: &[u8]) -> Result<(), String> {
+        for (position, count) in counts.iter().enumerate() {
+            let record = &ledger[8 + 16 * position..24 + 16 * position];
+            for which in 0..3 {
+                let kept = word(record, 1 + which);
+                if kept != count[which] {
+                    let name = ["w", "x", "l"][which];
+                    return Err(format!("{name} of block {position} is {kept}, afresh {}", count[which]));
+                }
+            }
+        }
+        Ok(())
+    }
+
+    fn never_both(&self, counts: &[[u32; 3]]) -> Result<(), String> {
+        let both = counts.iter().position(|count| count[0] > 0 && count[1] > 0);
+        both.map_or(Ok(()), |position| Err(format!("block {position} is writable and executable")))
+    }
+
+    fn executable_is_signed(&self, counts: &[[u32; 3]], store: &Store) -> Result<(), String> {
+        let unsigned = (0..counts.len()).find(|&position| counts[position][1] > 0 && !self.signed(position, store));
+        unsigned.map_or(Ok(()), |position| Err(format!("block {position} is executable and not signed")))
+    }
+
+    fn signed(&self, position: usize, store: &Store) -> bool {
+        let block = &store.memory[BLOCK * position..BLOCK * (position + 1)];
+        let digest = digest(block);
+        store.golden.chunks_exact(32).any(|known| known == digest)
+    }
+
+    /// The block and offset at which a walk from the last switched table ends.
+    pub fn walk(&self, address: usize, memory: &[u8]) -> Option<(usize, usize)> {
+        let table = self.switched? - self.first;
+        let entry = word(&memory[BLOCK * table..BLOCK * (table + 4)], address >> 20);
+        let gives = l1_gives(entry)?;
+        if !gives.link {
+            return Some((gives.first + (address >> 12) % 256 - self.first, address % BLOCK));
+        }
+        let place = BLOCK * (gives.first - self.first) + 1024 * (entry as usize >> 10 & 3);
+        let page = l2_gives(word(&memory[place..place + 1024], (address >> 12) % 256))?;
+        Some((page.first - self.first, address % BLOCK))
+    }
+
+    /// A fetched byte is the memory's at the walk's end, and that block is executable, signed and not writable.
+    fn fetched(&self, address: usize, byte: u8, store: &Store) -> Result<(), String> {
+        let (position, offset) =
+            self.walk(address, &store.memory).ok_or("a fetch was accepted, and its walk has no end")?;
+        let counts = self.counts(&store.memory);
+        if store.memory[BLOCK * position + offset] != byte {
+            return Err(format!("the byte fetched is not at the walk's end in block {position}"));
+        }
+        if counts[position][1] == 0 || counts[position][0] > 0 || !self.signed(position, store) {
+            return Err(format!("the byte fetched came from block {position}: not executable, writable or not signed"));
+        }
+        Ok(())
+    }
+}

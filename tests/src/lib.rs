@@ -1,0 +1,16 @@
+//! Safe Rust faces of the exported calls, and independent implementations to compare them with.
+pub mod bytes;
+pub mod cases;
+pub mod compare;
+pub mod demand;
+pub mod faults;
+pub mod hasher;
+#[cfg(feature = "library")]
+pub mod library;
+pub mod lists;
+pub mod monitor;
+pub mod random;
+pub mod reference;
+pub mod sha256;
+#[cfg(feature = "signature")]
+pub mod signature;

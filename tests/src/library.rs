@@ -1,0 +1,260 @@
+//! The exports of libmonitor.a. Every buffer is lent between canary bytes; canaries and const buffers are looked at after each call.
+use crate::monitor::{Kind, Monitor};
+use std::cell::Cell;
+
+/// Declares the exports that come with a feature. Without the feature they cannot be called.
+macro_rules! exports {
+    ($feature:tt: $(fn $name:ident($($parameter:ident: $type:ty),*);)*) => {
+        #[cfg(feature = $feature)]
+        extern "C" {
+            $(fn $name($($parameter: $type),*) -> u32;)*
+        }
+        $(
+            #[cfg(not(feature = $feature))]
+            unsafe fn $name($(_: $type),*) -> u32 {
+                panic!("{} is not linked", stringify!($name))
+            }
+        )*
+    };
+}
+
+#[link(name = "monitor", kind = "static")]
+extern "C" {}
+
+#[rustfmt::skip]
+exports! { "library":
+    fn pagemon_begin(memory: *const u8, memory_length: usize, ledger: *mut u8, ledger_length: usize, first_block: u32);
+    fn pagemon_switch(memory: *const u8, memory_length: usize, ledger: *mut u8, ledger_length: usize, block: u32);
+    fn pagemon_read(memory: *const u8, memory_length: usize, ledger: *const u8, ledger_length: usize, address: u32, byte: *mut u8);
+    fn pagemon_write(memory: *mut u8, memory_length: usize, ledger: *const u8, ledger_length: usize, address: u32, byte: u32);
+    fn pagemon_fetch(memory: *const u8, memory_length: usize, ledger: *const u8, ledger_length: usize, address: u32, byte: *mut u8);
+}
+
+#[rustfmt::skip]
+exports! { "mapping":
+    fn pagemon_map_l1(memory: *mut u8, memory_length: usize, ledger: *mut u8, ledger_length: usize, golden: *const u8, golden_length: usize, block: u32, index: u32, target: u32, rights: u32);
+    fn pagemon_map_l2(memory: *mut u8, memory_length: usize, ledger: *mut u8, ledger_length: usize, golden: *const u8, golden_length: usize, block: u32, index: u32, target: u32, rights: u32);
+    fn pagemon_link(memory: *mut u8, memory_length: usize, ledger: *mut u8, ledger_length: usize, block: u32, index: u32, target: u32, table: u32);
+    fn pagemon_unmap_l1(memory: *mut u8, memory_length: usize, ledger: *mut u8, ledger_length: usize, block: u32, index: u32);
+    fn pagemon_unmap_l2(memory: *mut u8, memory_length: usize, ledger: *mut u8, ledger_length: usize, block: u32, index: u32);
+}
+
+#[rustfmt::skip]
+exports! { "tables":
+    fn pagemon_create_l1(memory: *const u8, memory_length: usize, ledger: *mut u8, ledger_length: usize, golden: *const u8, golden_length: usize, block: u32);
+    fn pagemon_create_l2(memory: *const u8, memory_length: usize, ledger: *mut u8, ledger_length: usize, golden: *const u8, golden_length: usize, block: u32);
+    fn pagemon_free_l1(memory: *const u8, memory_length: usize, ledger: *mut u8, ledger_length: usize, block: u32);
+    fn pagemon_free_l2(memory: *const u8, memory_length: usize, ledger: *mut u8, ledger_length: usize, block: u32);
+}
+
+/// Is the call among those that are linked?
+pub fn linked(kind: Kind) -> bool {
+    match kind {
+        Kind::Begin | Kind::Switch | Kind::Read | Kind::Write | Kind::Fetch => true,
+        Kind::MapL1 | Kind::MapL2 | Kind::Link | Kind::UnmapL1 | Kind::UnmapL2 => cfg!(feature = "mapping"),
+        Kind::CreateL1 | Kind::CreateL2 | Kind::FreeL1 | Kind::FreeL2 => cfg!(feature = "tables"),
+    }
+}
+
+const CANARY: u8 = 0xC5;
+const GUARD: usize = 64;
+
+/// A copy of a buffer between canaries.
+struct Guarded {
+    bytes: Vec<u8>,
+    start: usize,
+    length: usize,
+}
+
+impl Guarded {
+    /// The start differs from an aligned address by `shift`.
+    fn new(content: &[u8], shift: usize) -> Guarded {
+        let start = GUARD + shift;
+        let mut bytes = Vec::with_capacity(start + content.len() + GUARD);
+        bytes.resize(start, CANARY);
+        bytes.extend_from_slice(content);
+        bytes.resize(start + content.len() + GUARD, CANARY);
+        Guarded { bytes, start, length: content.len() }
+    }
+
+    fn pointer(&self) -> *const u8 {
+        self.content().as_ptr()
+    }
+
+    fn pointer_mut(&mut self) -> *mut u8 {
+        self.bytes[self.start..self.start + self.length].as_mut_ptr()
+    }
+
+    fn content(&self) -> &[u8] {
+        &self.bytes[self.start..self.start + self.length]
+    }
+
+    fn guarded_content(&self) -> &[u8] {
+        let outside = self.bytes[..self.start].iter().chain(&self.bytes[self.start + self.length..]);
+        assert!(outside.into_iter().all(|byte| *byte == CANARY), "a byte outside of a buffer was changed");
+        self.content()
+    }
+
+    fn give_back(&self, content: &mut [u8]) {
+        content.copy_from_slice(self.guarded_content());
+    }
+
+    fn must_equal(&self, content: &[u8]) {
+        assert!(self.guarded_content() == content, "a const buffer was changed");
+    }
+}
+
+/// The linked library.
+#[derive(Default)]
+pub struct Library {
+    calls: Cell<usize>,
+}
+
+impl Library {
+    /// Buffers start at each alignment in turn.
+    fn guard(&self, content: &[u8]) -> Guarded {
+        self.calls.set(self.calls.get() + 1);
+        Guarded::new(content, self.calls.get() % 5)
+    }
+
+    /// A call that changes the ledger only.
+    fn with_ledger(
+        &self,
+        memory: &[u8],
+        ledger: &mut [u8],
+        call: impl Fn(*const u8, usize, *mut u8, usize) -> u32,
+    ) -> u32 {
+        let lent_memory = self.guard(memory);
+        let mut lent_ledger = self.guard(ledger);
+        let answer = call(lent_memory.pointer(), memory.len(), lent_ledger.pointer_mut(), ledger.len());
+        lent_memory.must_equal(memory);
+        lent_ledger.give_back(ledger);
+        answer
+    }
+
+    /// A call that changes memory and ledger.
+    fn with_both(
+        &self,
+        memory: &mut [u8],
+        ledger: &mut [u8],
+        call: impl Fn(*mut u8, usize, *mut u8, usize) -> u32,
+    ) -> u32 {
+        let mut lent_memory = self.guard(memory);
+        let mut lent_ledger = self.guard(ledger);
+        let answer = call(lent_memory.pointer_mut(), memory.len(), lent_ledger.pointer_mut(), ledger.len());
+        lent_memory.give_back(memory);
+        lent_ledger.give_back(ledger);
+        answer
+    }
+
+    /// A read or fetch. The byte starts as each of two values, neither of which may stay.
+    fn with_byte(
+        &self,
+        memory: &[u8],
+        ledger: &[u8],
+        call: impl Fn(*const u8, usize, *const u8, usize, *mut u8) -> u32,
+    ) -> (u32, u8) {
+        let lent_memory = self.guard(memory);
+        let lent_ledger = self.guard(ledger);
+        let once = |before: u8| {
+            let mut byte = self.guard(&[before]);
+            let answer =
+                call(lent_memory.pointer(), memory.len(), lent_ledger.pointer(), ledger.len(), byte.pointer_mut());
+            (answer, byte.guarded_content()[0])
+        };
+        let given = once(0xA7);
+        assert!(given == once(0x58), "the byte was not set, or the call is not repeatable");
+        lent_memory.must_equal(memory);
+        lent_ledger.must_equal(ledger);
+        given
+    }
+}
+
+impl Monitor for Library {
+    fn begin(&self, memory: &[u8], ledger: &mut [u8], first_block: u32) -> u32 {
+        self.with_ledger(memory, ledger, |m, n, r, k| unsafe { pagemon_begin(m, n, r, k, first_block) })
+    }
+
+    fn create_l1(&self, memory: &[u8], ledger: &mut [u8], golden: &[u8], block: u32) -> u32 {
+        let lent = self.guard(golden);
+        let answer = self.with_ledger(memory, ledger, |m, n, r, k| unsafe {
+            pagemon_create_l1(m, n, r, k, lent.pointer(), golden.len(), block)
+        });
+        lent.must_equal(golden);
+        answer
+    }
+
+    fn create_l2(&self, memory: &[u8], ledger: &mut [u8], golden: &[u8], block: u32) -> u32 {
+        let lent = self.guard(golden);
+        let answer = self.with_ledger(memory, ledger, |m, n, r, k| unsafe {
+            pagemon_create_l2(m, n, r, k, lent.pointer(), golden.len(), block)
+        });
+        lent.must_equal(golden);
+        answer
+    }
+
+    fn free_l1(&self, memory: &[u8], ledger: &mut [u8], block: u32) -> u32 {
+        self.with_ledger(memory, ledger, |m, n, r, k| unsafe { pagemon_free_l1(m, n, r, k, block) })
+    }
+
+    fn free_l2(&self, memory: &[u8], ledger: &mut [u8], block: u32) -> u32 {
+        self.with_ledger(memory, ledger, |m, n, r, k| unsafe { pagemon_free_l2(m, n, r, k, block) })
+    }
+
+    fn map_l1(&self, memory: &mut [u8], ledger: &mut [u8], golden: &[u8], arguments: [u32; 4]) -> u32 {
+        let lent = self.guard(golden);
+        let [block, index, target, rights] = arguments;
+        let answer = self.with_both(memory, ledger, |m, n, r, k| unsafe {
+            pagemon_map_l1(m, n, r, k, lent.pointer(), golden.len(), block, index, target, rights)
+        });
+        lent.must_equal(golden);
+        answer
+    }
+
+    fn map_l2(&self, memory: &mut [u8], ledger: &mut [u8], golden: &[u8], arguments: [u32; 4]) -> u32 {
+        let lent = self.guard(golden);
+        let [block, index, target, rights] = arguments;
+        let answer = self.with_both(memory, ledger, |m, n, r, k| unsafe {
+            pagemon_map_l2(m, n, r, k, lent.pointer(), golden.len(), block, index, target, rights)
+        });
+        lent.must_equal(golden);
+        answer
+    }
+
+    fn link(&self, memory: &mut [u8], ledger: &mut [u8], arguments: [u32; 4]) -> u32 {
+        let [block, index, target, table] = arguments;
+        self.with_both(memory, ledger, |m, n, r, k| unsafe { pagemon_link(m, n, r, k, block, index, target, table) })
+    }
+
+    fn unmap_l1(&self, memory: &mut [u8], ledger: &mut [u8], block: u32, index: u32) -> u32 {
+        self.with_both(memory, ledger, |m, n, r, k| unsafe { pagemon_unmap_l1(m, n, r, k, block, index) })
+    }
+
+    fn unmap_l2(&self, memory: &mut [u8], ledger: &mut [u8], block: u32, index: u32) -> u32 {
+        self.with_both(memory, ledger, |m, n, r, k| unsafe { pagemon_unmap_l2(m, n, r, k, block, index) })
+    }
+
+    fn switch(&self, memory: &[u8], ledger: &mut [u8], block: u32) -> u32 {
+        self.with_ledger(memory, ledger, |m, n, r, k| unsafe { pagemon_switch(m, n, r, k, block) })
+    }
+
+    fn read(&self, memory: &[u8], ledger: &[u8], address: u32) -> (u32, u8) {
+        self.with_byte(memory, ledger, |m, n, r, k, byte| unsafe { pagemon_read(m, n, r, k, address, byte) })
+    }
+
+    fn write(&self, memory: &mut [u8], ledger: &[u8], address: u32, byte: u32) -> u32 {
+        let mut lent_memory = self.guard(memory);
+        let lent_ledger = self.guard(ledger);
+        let answer = unsafe {
+            let (m, n) = (lent_memory.pointer_mut(), memory.len());
+            pagemon_write(m, n, lent_ledger.pointer(), ledger.len(), address, byte)
+        };
+        lent_memory.give_back(memory);
+        lent_ledger.must_equal(ledger);
+        answer
+    }
+
+    fn fetch(&self, memory: &[u8], ledger: &[u8], address: u32) -> (u32, u8) {
+        self.with_byte(memory, ledger, |m, n, r, k, byte| unsafe { pagemon_fetch(m, n, r, k, address, byte) })
+    }
+}

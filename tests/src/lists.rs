@@ -1,0 +1,329 @@
+//! Lists of steps, drawn with an eye on what the steps before them left, with the demand on lists held against every step.
+use crate::bytes::word;
+use crate::cases::scene::*;
+use crate::compare::{difference, Comparer, Outcome};
+use crate::demand::Told;
+use crate::monitor::{Call, Kind, BLOCK};
+use crate::random::Random;
+use std::collections::VecDeque;
+use Kind::*;
+
+/// Many short lists in small regions, a few in regions with room for sections.
+pub fn run(comparer: &mut Comparer) -> Outcome {
+    for seed in 0..60 {
+        let blocks = 8 + Random::new(seed).below(20);
+        list(comparer, seed, blocks, 300)?;
+    }
+    for seed in 100..106 {
+        list(comparer, seed, [260, 512, 520][seed as usize % 3], 150)?;
+    }
+    Ok(())
+}
+
+fn list(comparer: &mut Comparer, seed: u64, blocks: usize, steps: usize) -> Outcome {
+    let mut lister = Lister::new(seed, blocks);
+    let first = lister.told.first as u32;
+    let begin = Call::new(Begin, &[first]);
+    comparer.step("the list's begin", begin, &mut lister.scene.store)?;
+    for step in 0..steps {
+        let call = lister.next();
+        let before = lister.scene.store.memory.clone();
+        let name = format!("list {seed} of {blocks} blocks, step {step}");
+        let given = comparer.step(&name, call, &mut lister.scene.store)?;
+        let told = lister.told.step(call, given, &before, &lister.scene.store);
+        told.map_err(|what| difference(&name, call, what))?;
+        if call.kind == Begin && given.answer == 0 {
+            lister.scene.first = call.arguments[0];
+        }
+    }
+    Ok(())
+}
+
+struct Lister {
+    scene: Scene,
+    told: Told,
+    random: Random,
+    /// Steps that are already decided.
+    plan: VecDeque<Call>,
+}
+
+impl Lister {
+    /// A memory with data, beginnings of tables and zeros, some of it signed, and a ledger of random bytes.
+    fn new(seed: u64, blocks: usize) -> Lister {
+        let mut random = Random::new(1000 + seed);
+        let first = 256 * random.below(5) as u32;
+        let mut scene = Scene::new(first, blocks);
+        scene.store.ledger = random.bytes(scene.store.ledger.len());
+        for group in (0..blocks.min(40)).step_by(4) {
+            put_group(&mut scene, group, &mut random);
+        }
+        scene.store.golden.extend(zero_digest());
+        if seed % 15 == 7 {
+            scene.store.golden.push(1);
+        }
+        Lister { scene, told: Told::new(first, blocks), random, plan: VecDeque::new() }
+    }
+
+    fn next(&mut self) -> Call {
+        if let Some(call) = self.plan.pop_front() {
+            return call;
+        }
+        if self.told.switched.is_none() && self.random.below(3) == 0 {
+            self.plan_table();
+        }
+        let call = match self.random.below(100) {
+            0 if self.random.below(2) == 0 => self.begin(),
+            0..=4 => self.anything(),
+            5..=12 => self.create(),
+            13..=15 => self.free(),
+            16..=30 => self.map_page(),
+            31..=38 => self.link(),
+            39..=44 => self.unmap(),
+            45..=48 => self.switch(),
+            49..=53 => self.map_section(),
+            54..=64 if self.told.tables.len() > 256 => self.map_section(),
+            54..=60 => self.plan_written_table(),
+            _ => self.access(),
+        };
+        self.plan.push_back(call);
+        self.plan.pop_front().unwrap_or(call)
+    }
+
+    fn block(&self, position: usize) -> u32 {
+        self.told.first as u32 + position as u32
+    }
+
+    fn any_block(&mut self) -> u32 {
+        let position = self.random.below(self.told.tables.len().min(32));
+        self.block(position)
+    }
+
+    /// Some block of this kind, or else any.
+    fn some(&mut self, code: u8) -> u32 {
+        let all: Vec<usize> = (0..self.told.tables.len()).filter(|at| self.told.tables[*at] == code).collect();
+        if all.is_empty() {
+            return self.any_block();
+        }
+        let at = all[self.random.below(all.len())];
+        self.block(at)
+    }
+
+    /// The first of four blocks that can be made an L1 table, or else any.
+    fn some_group(&mut self) -> u32 {
+        let tables = &self.told.tables;
+        let fit = |group: &usize| {
+            let bytes = &self.scene.store.memory[BLOCK * group..BLOCK * (group + 4)];
+            tables[*group..group + 4] == [0; 4] && bytes.iter().skip(24).all(|byte| *byte == 0)
+        };
+        let groups: Vec<usize> = (0..tables.len().min(40) - 3).step_by(4).filter(fit).collect();
+        match groups.len() {
+            0 => self.some(0) & !3,
+            count => {
+                let group = groups[self.random.below(count)];
+                self.block(group)
+            }
+        }
+    }
+
+    /// The first block of some L1 table.
+    fn some_l1(&mut self) -> u32 {
+        self.some(1) & !3
+    }
+
+    /// Begin with the same B or another, then fetches where something was mapped before.
+    fn begin(&mut self) -> Call {
+        let same = self.told.first as u32;
+        let first = [same, same, same, 0, 0x100, 0x200, 0x700, 0xFF0, u32::MAX][self.random.below(9)];
+        let pages = self.mapped();
+        self.plan.push_back(Call::new(Begin, &[first]));
+        self.plan.extend(pages.into_iter().map(|page| Call::new(Fetch, &[page])));
+        Call::new(Read, &[0])
+    }
+
+    fn anything(&mut self) -> Call {
+        let kind = Kind::ALL[1 + self.random.below(13)];
+        let mut arguments = [0; 4];
+        for argument in &mut arguments {
+            *argument = match self.random.below(4) {
+                0 => self.random.next() as u32,
+                1 => self.random.below(8) as u32,
+                2 => self.random.below(4100) as u32,
+                _ => self.told.first as u32 + self.random.below(16) as u32,
+            };
+        }
+        Call { kind, arguments }
+    }
+
+    fn create(&mut self) -> Call {
+        match self.random.below(3) {
+            0 => Call::new(CreateL1, &[self.some_group()]),
+            _ => Call::new(CreateL2, &[self.some(0)]),
+        }
+    }
+
+    fn free(&mut self) -> Call {
+        match self.random.below(2) {
+            0 => Call::new(FreeL1, &[self.some_l1()]),
+            _ => Call::new(FreeL2, &[self.some(2)]),
+        }
+    }
+
+    fn rights(&mut self) -> u32 {
+        [0, 1, 3, 3, 3, 5, 5, 7, 2, 8][self.random.below(10)]
+    }
+
+    fn map_page(&mut self) -> Call {
+        let target = if self.random.below(4) == 0 { self.any_block() } else { self.some(0) };
+        Call::new(MapL2, &[self.some(2), self.random.below(6) as u32, target, self.rights()])
+    }
+
+    fn map_section(&mut self) -> Call {
+        let sections = (self.told.tables.len() / 256).max(1);
+        let section = self.random.below(sections);
+        let target = self.block(256 * section);
+        Call::new(MapL1, &[self.some_l1(), self.random.below(6) as u32, target, self.rights()])
+    }
+
+    fn link(&mut self) -> Call {
+        Call::new(Link, &[self.some_l1(), self.random.below(6) as u32, self.some(2), self.random.below(2) as u32])
+    }
+
+    fn unmap(&mut self) -> Call {
+        match self.random.below(3) {
+            0 => Call::new(UnmapL1, &[self.some_l1(), self.random.below(6) as u32]),
+            _ => Call::new(UnmapL2, &[self.some(2), self.random.below(6) as u32]),
+        }
+    }
+
+    fn switch(&mut self) -> Call {
+        Call::new(Switch, &[self.some_l1()])
+    }
+
+    /// An address that is likely to be mapped.
+    fn address(&mut self) -> u32 {
+        (self.random.below(6) << 20 | self.random.below(6) << 12 | self.random.below(4096)) as u32
+    }
+
+    fn access(&mut self) -> Call {
+        let mapped = self.mapped();
+        let address = match mapped.len() {
+            0 => self.address(),
+            _ if self.random.below(8) == 0 => self.address(),
+            count => mapped[self.random.below(count)] | self.random.below(4096) as u32,
+        };
+        let byte = self.random.next() as u32;
+        match self.random.below(8) {
+            0 => Call::new(Write, &[address, byte]),
+            1 => Call::new(Read, &[address]),
+            2 => Call::new(Fetch, &[address]),
+            _ => self.allowed(address, byte),
+        }
+    }
+
+    /// An access that the counters of the walk's last block make likely to be allowed.
+    fn allowed(&mut self, address: u32, byte: u32) -> Call {
+        let end = self.told.walk(address as usize, &self.scene.store.memory);
+        match end.map_or(0, |(position, _)| position) {
+            position if self.scene.record(position, X) > 0 => Call::new(Fetch, &[address]),
+            position if self.scene.record(position, W) > 0 => Call::new(Write, &[address, byte]),
+            _ => Call::new(Read, &[address]),
+        }
+    }
+
+    /// The pages near the start of the address space at which a walk has an end.
+    fn mapped(&self) -> Vec<u32> {
+        let pages = (0..6u32).flat_map(|l1| (0..6u32).map(move |l2| l1 << 20 | l2 << 12));
+        pages.filter(|page| self.told.walk(*page as usize, &self.scene.store.memory).is_some()).collect()
+    }
+
+    /// An L1 table, an L2 block, a link between them, and the switch.
+    fn plan_table(&mut self) {
+        let (table, pages) = (self.some_group(), self.some(0));
+        let target = self.some(0);
+        self.plan.extend([
+            Call::new(CreateL1, &[table]),
+            Call::new(CreateL2, &[pages]),
+            Call::new(Link, &[table, 0, pages, 0]),
+            Call::new(MapL2, &[pages, 1, target, 3]),
+            Call::new(Switch, &[table]),
+        ]);
+    }
+
+    /// The guest writes an entry into a data block, which is then unmapped and made a table: with all words of it zero or accepted, that may work.
+    fn plan_written_table(&mut self) -> Call {
+        let mapped = self.mapped();
+        if mapped.is_empty() {
+            return self.access();
+        }
+        let page = mapped[self.random.below(mapped.len())];
+        let Some((position, _)) = self.told.walk(page as usize, &self.scene.store.memory) else { return self.access() };
+        let target = self.any_block() << 12;
+        let low = [PAGE_NONE, PAGE_READ, PAGE_WRITE, PAGE_EXECUTE, PAGE_ALL, 0, 1][self.random.below(7)];
+        let index = self.random.below(6) as u32;
+        for (k, byte) in (0..).zip((target | low).to_le_bytes()) {
+            self.plan.push_back(Call::new(Write, &[page + 4 * index + k, u32::from(byte) | 0x5500]));
+        }
+        self.plan_unmap_all(position);
+        self.plan.push_back(Call::new(CreateL2, &[self.block(position)]));
+        Call::new(Read, &[page + 4 * index])
+    }
+
+    /// Unmaps the small entries that lead to a block.
+    fn plan_unmap_all(&mut self, position: usize) {
+        let block = self.block(position);
+        for (table, _) in self.told.tables.iter().enumerate().filter(|(_, code)| **code == 2) {
+            for index in 0..1024 {
+                let entry = word(&self.scene.store.memory, BLOCK * table + 4 * index);
+                if entry & 2 != 0 && entry >> 12 == block {
+                    self.plan.push_back(Call::new(UnmapL2, &[self.told.first as u32 + table as u32, index as u32]));
+                }
+            }
+        }
+    }
+}
+
+/// Four blocks: zeros, the beginning of an L1 table, or data and beginnings of L2 tables. Some are signed.
+fn put_group(scene: &mut Scene, group: usize, random: &mut Random) {
+    match random.below(5) {
+        0 | 1 => {}
+        2 => put_l1_table(scene, group, random),
+        _ => {
+            for position in group..group + 4 {
+                match random.below(4) {
+                    0 => scene.fill(position, random),
+                    1 => put_page_table(scene, position, random),
+                    _ => {}
+                }
+            }
+        }
+    }
+    for position in group..group + 4 {
+        if random.below(3) == 0 {
+            scene.sign(position);
+        }
+    }
+}
+
+/// Links and sections that may become acceptable.
+fn put_l1_table(scene: &mut Scene, position: usize, random: &mut Random) {
+    for index in 0..random.below(3) {
+        let target = random.below(scene.blocks());
+        let word = match random.below(3) {
+            0 if scene.blocks() >= 256 => scene.mapping(0, [SECTION_NONE, SECTION_READ][random.below(2)]),
+            _ => scene.link(target, random.below(2) as u32),
+        };
+        scene.put(position, index, word);
+    }
+}
+
+/// A block that can be made an L2 block: a few pages near the region's start.
+fn put_page_table(scene: &mut Scene, position: usize, random: &mut Random) {
+    for _ in 0..random.below(5) {
+        let target = random.below(scene.blocks());
+        let low = [PAGE_NONE, PAGE_READ, PAGE_WRITE, PAGE_EXECUTE][random.below(4)];
+        scene.put(position, random.below(6), scene.mapping(target, low));
+    }
+    if random.below(4) == 0 {
+        scene.put(position, 5, scene.mapping(position, PAGE_EXECUTE));
+    }
+}

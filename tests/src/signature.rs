@@ -1,0 +1,16 @@
+//! The exports of libsignature.a.
+#[link(name = "signature", kind = "static")]
+extern "C" {
+    fn signature_sha256(message: *const u8, length: usize, digest: *mut u8);
+    fn signature_is_signed(block: *const u8, block_length: usize, golden: *const u8, golden_length: usize) -> bool;
+}
+
+pub fn sha256(message: &[u8]) -> [u8; 32] {
+    let mut digest = [0; 32];
+    unsafe { signature_sha256(message.as_ptr(), message.len(), digest.as_mut_ptr()) };
+    digest
+}
+
+pub fn is_signed(block: &[u8], golden: &[u8]) -> bool {
+    unsafe { signature_is_signed(block.as_ptr(), block.len(), golden.as_ptr(), golden.len()) }
+}

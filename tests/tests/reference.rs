@@ -1,0 +1,230 @@
+//! The reference held against what the monitor's document says in so many words.
+use std::rc::Rc;
+use tests::bytes::word;
+use tests::cases::scene::*;
+use tests::monitor::{perform, Call, Kind, Monitor, BLOCK, NO_TABLE};
+use tests::reference::entries::Level;
+use tests::reference::Reference;
+use tests::sha256::Sha256;
+use Kind::*;
+
+fn answer(scene: &mut Scene, kind: Kind, arguments: &[u32]) -> u32 {
+    perform(&Reference::new(), Call::new(kind, arguments), &mut scene.store).answer
+}
+
+/// 0 for a fault, 7 for a form that is not accepted, else 8 with the rights.
+fn page_number(low: u32) -> u32 {
+    Reference::new().page_number(low)
+}
+
+#[test]
+fn twelve_page_rights() {
+    let cases = [
+        (0x3FC, 0x0),
+        (0x00D, 0x7),
+        (0x20E, 0x7),
+        (0x00F, 0x8),
+        (0x01F, 0x8),
+        (0x21E, 0x8),
+        (0x02F, 0x9),
+        (0x23F, 0x9),
+        (0x03F, 0xB),
+        (0x02E, 0xD),
+        (0x22E, 0xD),
+        (0x03E, 0xF),
+    ];
+    for (low, number) in cases {
+        assert_eq!(page_number(low), number, "low bits {low:#x}");
+    }
+}
+
+/// All 1,024 page codes by the sentences on AP and XN.
+#[test]
+fn all_page_rights() {
+    for low in 0..1024 {
+        let ap = low >> 9 << 2 | low >> 4 & 3;
+        let number = match (low & 3, ap) {
+            (0, _) => 0,
+            (1, _) | (_, 0b100) => 7,
+            (_, 0b010 | 0b110 | 0b111) => 8 + 1 + 4 * u32::from(low & 1 == 0),
+            (_, 0b011) => 8 + 3 + 4 * u32::from(low & 1 == 0),
+            _ => 8,
+        };
+        assert_eq!(page_number(low), number, "low bits {low:#x}");
+    }
+}
+
+fn typed(blocks: usize) -> Scene {
+    let mut scene = Scene::new(0x100, blocks);
+    scene.set_types(0..4, 1);
+    scene.set_types(4..5, 2);
+    scene
+}
+
+#[test]
+fn written_words() {
+    for (rights, page, section) in [(0, 0x01F, 0x41E), (1, 0x02F, 0x81E), (3, 0x03F, 0xC1E), (5, 0x02E, 0x80E)] {
+        let mut scene = typed(512);
+        scene.store.golden = zero_digest().to_vec();
+        assert_eq!(answer(&mut scene, MapL2, &[0x104, 9, 0x105, rights]), 0);
+        assert_eq!(scene.word(4, 9), 0x0010_5000 + page);
+        assert_eq!(answer(&mut scene, MapL1, &[0x100, 4095, 0x200, rights]), 0);
+        assert_eq!(scene.word(0, 4095), 0x0020_0000 + section);
+    }
+    let mut scene = typed(16);
+    assert_eq!(answer(&mut scene, Link, &[0x100, 2, 0x104, 3]), 0);
+    assert_eq!(scene.word(0, 2), 0x0010_4C01);
+}
+
+#[test]
+fn sizes_of_regions() {
+    for (blocks, expected) in [(7, 1), (8, 0), (4096, 0), (4097, 1)] {
+        assert_eq!(answer(&mut Scene::new(0, blocks), Begin, &[0]), expected, "{blocks} blocks");
+    }
+}
+
+#[test]
+fn indices() {
+    for (index, expected) in [(4095, 0), (4096, 4)] {
+        assert_eq!(answer(&mut typed(16), UnmapL1, &[0x100, index]), expected);
+    }
+    for (index, expected) in [(1023, 0), (1024, 4)] {
+        assert_eq!(answer(&mut typed(16), UnmapL2, &[0x104, index]), expected);
+    }
+}
+
+#[test]
+fn last_section_of_a_region() {
+    for (blocks, target, expected) in [(512, 0x200, 0), (511, 0x200, 10), (513, 0x200, 0), (513, 0x300, 10)] {
+        assert_eq!(answer(&mut typed(blocks), MapL1, &[0x100, 0, target, 3]), expected, "{blocks} blocks");
+    }
+}
+
+#[test]
+fn a_section_counts_on_each_of_its_blocks() {
+    let mut scene = typed(512);
+    assert_eq!(answer(&mut scene, MapL1, &[0x100, 0, 0x200, 3]), 0);
+    assert!((256..512).all(|position| scene.record(position, W) == 1));
+    assert!((0..256).all(|position| scene.record(position, W) == 0));
+    assert_eq!(answer(&mut scene, UnmapL1, &[0x100, 0]), 0);
+    assert!((0..512).all(|position| scene.record(position, W) == 0));
+}
+
+#[test]
+fn the_new_entry_may_not_go_into_its_signed_target() {
+    let mut scene = typed(16);
+    scene.sign(4);
+    assert_eq!(answer(&mut scene, MapL2, &[0x104, 0, 0x104, 5]), 10);
+}
+
+#[test]
+fn new_entries_are_compared_with_each_other() {
+    let mut scene = Scene::new(0x100, 16);
+    scene.store.golden = zero_digest().to_vec();
+    scene.put(8, 0, scene.mapping(9, PAGE_WRITE));
+    scene.put(8, 1023, scene.mapping(9, PAGE_EXECUTE));
+    assert_eq!(answer(&mut scene, CreateL2, &[0x108]), 11);
+}
+
+#[test]
+fn an_executable_table_is_frozen() {
+    let mut scene = typed(16);
+    scene.store.golden = zero_digest().to_vec();
+    scene.set_types(5..6, 2);
+    assert_eq!(answer(&mut scene, MapL2, &[0x105, 0, 0x104, 5]), 0);
+    assert_eq!(answer(&mut scene, MapL2, &[0x104, 0, 0x106, 1]), 7);
+    assert_eq!(answer(&mut scene, UnmapL2, &[0x104, 0]), 7);
+    assert_eq!(answer(&mut scene, MapL2, &[0x105, 1, 0x100, 5]), 0);
+    assert_eq!(answer(&mut scene, Link, &[0x100, 0, 0x104, 0]), 7);
+    assert_eq!(answer(&mut scene, Link, &[0x100, 1024, 0x104, 0]), 0);
+}
+
+/// The end value alone is judged, at both ends.
+#[test]
+fn counters_at_both_ends() {
+    const LIMIT: u32 = 1 << 22;
+    for (count, expected) in [(0, 13), (1, 0), (LIMIT, 0), (LIMIT + 1, 0), (LIMIT + 2, 13), (u32::MAX, 13)] {
+        let mut scene = typed(16);
+        scene.put(4, 0, scene.mapping(9, PAGE_WRITE));
+        scene.set_record(9, W, count);
+        assert_eq!(answer(&mut scene, UnmapL2, &[0x104, 0]), expected, "unmap at {count:#x}");
+    }
+    for (count, expected) in [(0, 0), (LIMIT - 1, 0), (LIMIT, 13), (u32::MAX, 13)] {
+        let mut scene = typed(16);
+        scene.set_record(9, W, count);
+        assert_eq!(answer(&mut scene, MapL2, &[0x104, 0, 0x109, 3]), expected, "map at {count:#x}");
+    }
+    for (count, expected) in [(4, 13), (5, 0), (LIMIT + 3, 0), (LIMIT + 5, 0), (LIMIT + 6, 13)] {
+        let mut scene = typed(16);
+        (0..5).for_each(|index| scene.put(4, index, scene.mapping(9, PAGE_WRITE)));
+        scene.set_record(9, W, count);
+        assert_eq!(answer(&mut scene, FreeL2, &[0x104]), expected, "free at {count:#x}");
+    }
+}
+
+/// The last three blocks of a region give 2 and not 3; FFFFFFFD doesn't wrap.
+#[test]
+fn four_blocks_of_a_table() {
+    for (block, expected) in [(0x10C, 5), (0x10D, 2), (0x10E, 2), (0x10F, 2), (0x101, 3), (0xFFFF_FFFD, 2)] {
+        assert_eq!(answer(&mut Scene::new(0x100, 16), Switch, &[block]), expected);
+    }
+}
+
+#[test]
+fn begin_leaves_a_fresh_ledger_and_the_memory() {
+    let mut scene = Scene::new(0x100, 8);
+    scene.store.memory = Rc::new(vec![7; 8 * BLOCK]);
+    scene.store.ledger.fill(9);
+    assert_eq!(answer(&mut scene, Begin, &[0xFFF00]), 0);
+    assert_eq!(word(&scene.store.ledger, 0), 0xFFF00);
+    assert_eq!(word(&scene.store.ledger, 4), NO_TABLE);
+    assert!(scene.store.ledger[8..].iter().all(|byte| *byte == 0));
+    assert!(scene.store.memory.iter().all(|byte| *byte == 7));
+}
+
+#[test]
+fn first_blocks() {
+    let lawful = [(8, 0), (16, 0x100), (256, 0xFFF00), (257, 0xFFE00)];
+    let unlawful = [(8, 255), (8, 1), (257, 0xFFF00), (8, 1 << 20), (256, 0xFFFF_FF00), (8, u32::MAX)];
+    for (blocks, first) in lawful {
+        assert_eq!(answer(&mut Scene::new(0, blocks), Begin, &[first]), 0, "{first:#x}");
+    }
+    for (blocks, first) in unlawful {
+        assert_eq!(answer(&mut Scene::new(0, blocks), Begin, &[first]), 1, "{first:#x}");
+    }
+}
+
+/// A refused read gives 0, a write stores the low 8 bits only.
+#[test]
+fn guest_bytes() {
+    let mut scene = typed(16);
+    scene.activate(0);
+    scene.put(0, 0, scene.link(4, 0));
+    scene.put(4, 5, scene.mapping(8, PAGE_WRITE));
+    let reference = Reference::new();
+    let (memory, ledger) = (Rc::make_mut(&mut scene.store.memory), &scene.store.ledger);
+    assert_eq!(reference.write(memory, ledger, 0x5001, 0x1234_5678), 0);
+    assert_eq!(&memory[8 * BLOCK..8 * BLOCK + 4], [0, 0x78, 0, 0]);
+    assert_eq!(reference.read(memory, ledger, 0x5001), (0, 0x78));
+    assert_eq!(reference.fetch(memory, ledger, 0x5001), (23, 0));
+    assert_eq!(reference.read(memory, ledger, 0x6001), (22, 0));
+}
+
+#[test]
+fn tables_have_four_blocks_or_one() {
+    assert_eq!((Level::L1.blocks(), Level::L1.entries()), (4, 4096));
+    assert_eq!((Level::L2.blocks(), Level::L2.entries()), (1, 1024));
+}
+
+#[test]
+fn published_digests() {
+    let hexadecimal =
+        |message: &[u8]| -> String { Sha256::new().digest(message).iter().map(|byte| format!("{byte:02x}")).collect() };
+    assert_eq!(hexadecimal(b""), "e3b0c44298fc1c149afbf4c8996fb92427ae41e4649b934ca495991b7852b855");
+    assert_eq!(hexadecimal(b"abc"), "ba7816bf8f01cfea414140de5dae2223b00361a396177a9cb410ff61f20015ad");
+    assert_eq!(
+        hexadecimal(b"abcdbcdecdefdefgefghfghighijhijkijkljklmklmnlmnomnopnopq"),
+        "248d6a61d20638b8e5c026930c3e6039a33ce45964ff2167f6ecedd419db06c1"
+    );
+    assert_eq!(hexadecimal(&vec![b'a'; 1_000_000]), "cdc76e5c9914fb9281a1c7e284d73e67f1809a48a497200e046d39ccc7112cd0");
+}
