@@ -1,0 +1,4 @@
+pub mod Decoding
+pub mod Outcomes
+pub mod Running
+pub mod Upheld

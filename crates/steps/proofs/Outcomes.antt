@@ -1,0 +1,52 @@
+-- A call that has no byte to give gives 0.
+use mathlib.Core.List.{List}
+use mathlib.Core.Path.{_≡_, refl}
+use Prim.Native.Nat.{ℕ, zero, suc}
+use Rattle.entries.specs.Entries.{Level}
+use Rattle.rules.specs.Store.{Store, settle}
+use Rattle.rules.specs.Tables.{Form}
+use Rattle.rules.specs.Begin.{beginOutcome}
+use Rattle.rules.specs.Create.{createOutcome}
+use Rattle.rules.specs.Free.{freeOutcome}
+use Rattle.rules.specs.Map.{mapOutcome}
+use Rattle.rules.specs.Link.{linkOutcome}
+use Rattle.rules.specs.Unmap.{unmapOutcome}
+use Rattle.rules.specs.Switch.{switchOutcome}
+use Rattle.rules.specs.Guest.{writes, guestOutcome, byteGiven}
+
+settle-byte : (k : ℕ) (old new : Store) → 0 ≡ settle k old new 0 .byte
+unfolding settle
+settle-byte zero old new = refl
+settle-byte (suc k) old new = refl
+
+pub begin-byte : (s : Store) (B : ℕ) → 0 ≡ beginOutcome s B .byte
+unfolding beginOutcome
+begin-byte s B = settle-byte _ _ _
+
+pub create-byte : (v : Level) (golden : List ℕ) (s : Store) (p : ℕ) → 0 ≡ createOutcome v golden s p .byte
+unfolding createOutcome
+create-byte v golden s p = settle-byte _ _ _
+
+pub free-byte : (v : Level) (s : Store) (p : ℕ) → 0 ≡ freeOutcome v s p .byte
+unfolding freeOutcome
+free-byte v s p = settle-byte _ _ _
+
+pub map-byte : (f : Form) (golden : List ℕ) (s : Store) (p i t r : ℕ) → 0 ≡ mapOutcome f golden s p i t r .byte
+unfolding mapOutcome
+map-byte f golden s p i t r = settle-byte _ _ _
+
+pub link-byte : (s : Store) (p i t j : ℕ) → 0 ≡ linkOutcome s p i t j .byte
+unfolding linkOutcome
+link-byte s p i t j = settle-byte _ _ _
+
+pub unmap-byte : (f : Form) (s : Store) (p i : ℕ) → 0 ≡ unmapOutcome f s p i .byte
+unfolding unmapOutcome
+unmap-byte f s p i = settle-byte _ _ _
+
+pub switch-byte : (s : Store) (p : ℕ) → 0 ≡ switchOutcome s p .byte
+unfolding switchOutcome
+switch-byte s p = settle-byte _ _ _
+
+pub write-byte : (v : ℕ) (s : Store) (addr : ℕ) → 0 ≡ guestOutcome (writes v) s addr .byte
+unfolding guestOutcome byteGiven
+write-byte v s addr = settle-byte _ _ _

@@ -1,0 +1,31 @@
+// Lists of steps: records of calls, obeyed one after the other by the monitor's exported calls.
+ghost use mathlib.Core.Path.{_≡_};
+ghost use lib.ListN.{length, take};
+ghost use lib.Seq.{sets};
+ghost use Rattle.rules.specs.Store.{lent};
+ghost use Rattle.steps.specs.Records.{ran, room, stepsIn};
+ghost use Rattle.steps.specs.Upheld.{Upholds};
+
+pub mod records;
+pub mod runner;
+pub mod step;
+
+// Obeys the records up to the first that holds no step, as many as there is room for their answers and bytes, and says how many they were. Demand 3
+// holds of what is left and handed out.
+#[no_mangle]
+pub extern "C" fn pagemon_run(
+    memory: &mut [u8],
+    ledger: &mut [u8],
+    golden: &[u8],
+    records: &[u8],
+    answers: &mut [u32],
+    bytes: &mut [u8],
+) -> usize
+    ensures { λ r. ⌜ r ≡ length (stepsIn (now (records .entry)) (room (now (answers .entry)) (now (bytes .entry)))) ⌝ }
+    ensures { λ r. ⌜ lent (now (memory .exit)) (now (ledger .exit)) ≡ ran (now (golden .entry)) (lent (now (memory .entry)) (now (ledger .entry))) (now (records .entry)) (now (answers .entry)) (now (bytes .entry)) .reached ⌝ }
+    ensures { λ r. ⌜ now (answers .exit) ≡ sets (now (answers .entry)) 0 (ran (now (golden .entry)) (lent (now (memory .entry)) (now (ledger .entry))) (now (records .entry)) (now (answers .entry)) (now (bytes .entry)) .answers) ⌝ }
+    ensures { λ r. ⌜ now (bytes .exit) ≡ sets (now (bytes .entry)) 0 (ran (now (golden .entry)) (lent (now (memory .entry)) (now (ledger .entry))) (now (records .entry)) (now (answers .entry)) (now (bytes .entry)) .bytes) ⌝ }
+    ensures { λ r. ⌜ Upholds (now (golden .entry)) (lent (now (memory .entry)) (now (ledger .entry))) (stepsIn (now (records .entry)) (room (now (answers .entry)) (now (bytes .entry)))) (lent (now (memory .exit)) (now (ledger .exit))) (take r (now (answers .exit))) (take r (now (bytes .exit))) ⌝ }
+{
+    runner::run_records(memory, ledger, golden, records, answers, bytes)
+}
