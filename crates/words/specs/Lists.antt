@@ -1,7 +1,7 @@
--- Parts of lists, and lists by their elements. Plain mathematics.
+-- Parts of lists, lists by their elements, and lists stored over others. Plain mathematics.
 use mathlib.Core.List.{List, [], _∷_, _++_}
 use Prim.Native.Nat.{ℕ, zero, suc}
-use lib.ListN.{take, drop}
+use lib.ListN.{take, drop, set}
 
 -- the m elements of xs from place a on (as many of them as there are)
 unfoldable pub part : List ℕ → ℕ → ℕ → List ℕ
@@ -11,3 +11,8 @@ part xs a m = take m (drop a xs)
 unfoldable pub tabulate : (ℕ → ℕ) → ℕ → List ℕ
 tabulate f zero = []
 tabulate f (suc n) = tabulate f n ++ (f n ∷ [])
+
+-- xs with ys stored over its own elements from place a on, as far as xs reaches
+unfoldable pub putBytes : List ℕ → ℕ → List ℕ → List ℕ
+putBytes xs a [] = xs
+putBytes xs a (y ∷ ys) = putBytes (set xs a y) (suc a) ys
