@@ -5,7 +5,7 @@ use Prim.Native.Nat.{ℕ, _+_, _-_, _^_, _<_, _≤_}
 use native.Mathlib.Omega.{arith}
 use lib.ListN.{length, length-append}
 use borrow.Author.Tests.{le-leb, lt-leb}
-use Rattle.words.specs.Lists.{putBytes}
+use Rattle.words.specs.Lists.{putList}
 use Rattle.lines.specs.declared.Line.{Line}
 use Rattle.lines.specs.declared.Line.the-variants.{Answer, AnswerWithByte, Bad}
 use Rattle.lines.specs.Decimal.{decimal, digits}
@@ -76,7 +76,7 @@ pub stored-fitting : (xs : List ℕ) (a : ℕ) {l m : Line} {zs : List ℕ} {e :
 stored-fitting xs a {l} h is stored = rw (fitting-line (length xs - a) l h, is) stored
 
 pub stored-none : (xs : List ℕ) (a : ℕ) (l : Line) → length xs - a < longestLine → Stored xs a (fitting (length xs - a) l) xs a
-unfolding fitting putBytes
+unfolding fitting putList
 stored-none xs a l h = rw (lt-leb longestLine (length xs - a) h) (record { bytes = refl; end = omega arith })
 
 -- the turn of a loop that stores line after line

@@ -3,9 +3,9 @@ use mathlib.Core.List.{List}
 use mathlib.Core.Path.{_≡_}
 use Prim.Native.Nat.{ℕ, _+_}
 use lib.ListN.{length}
-use Rattle.words.specs.Lists.{putBytes}
+use Rattle.words.specs.Lists.{putList}
 
 -- ys are stored in xs from place a on, which leaves zs, and e is the place after them
 pub record Stored (xs : List ℕ) (a : ℕ) (ys zs : List ℕ) (e : ℕ) : Type 0 where
-  pub bytes : zs ≡ putBytes xs a ys
+  pub bytes : zs ≡ putList xs a ys
   pub end : e ≡ a + length ys

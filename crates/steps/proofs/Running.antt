@@ -7,7 +7,7 @@ use Prim.Native.Nat.{ℕ, suc, _+_, _-_, _≤_, _<_}
 use native.Mathlib.Numerals.{add-one}
 use native.Mathlib.Omega.{arith}
 use lib.ListN.{length, set, length-set}
-use lib.Seq.{sets}
+use Rattle.words.specs.Lists.{putList}
 use Rattle.rules.specs.Store.{Store}
 use Rattle.rules.specs.Steps.{Step, run}
 use Rattle.steps.specs.Records.{recordBytes, stepAt, andThen, stepsFrom}
@@ -23,16 +23,16 @@ module _ (golden records : List ℕ) (m : ℕ) (s₀ : Store) (answers₀ bytes�
     pub bytes-length : length bytes ≡ length bytes₀
     pub counted : length (stepsFrom records 0 m) ≡ i + length (stepsFrom records p (m - i))
     pub reaching : run golden s₀ (stepsFrom records 0 m) .reached ≡ run golden s (stepsFrom records p (m - i)) .reached
-    pub answering : sets answers₀ 0 (run golden s₀ (stepsFrom records 0 m) .answers) ≡ sets answers i (run golden s (stepsFrom records p (m - i)) .answers)
-    pub giving : sets bytes₀ 0 (run golden s₀ (stepsFrom records 0 m) .bytes) ≡ sets bytes i (run golden s (stepsFrom records p (m - i)) .bytes)
+    pub answering : putList answers₀ 0 (run golden s₀ (stepsFrom records 0 m) .answers) ≡ putList answers i (run golden s (stepsFrom records p (m - i)) .answers)
+    pub giving : putList bytes₀ 0 (run golden s₀ (stepsFrom records 0 m) .bytes) ≡ putList bytes i (run golden s (stepsFrom records p (m - i)) .bytes)
 
   -- what all the records come to
   abbrev pub Ended : ℕ → Store → List ℕ → List ℕ → Type 0
   Ended i s answers bytes =
       (i ≡ length (stepsFrom records 0 m))
       × ((s ≡ run golden s₀ (stepsFrom records 0 m) .reached)
-      × ((answers ≡ sets answers₀ 0 (run golden s₀ (stepsFrom records 0 m) .answers))
-      × (bytes ≡ sets bytes₀ 0 (run golden s₀ (stepsFrom records 0 m) .bytes))))
+      × ((answers ≡ putList answers₀ 0 (run golden s₀ (stepsFrom records 0 m) .answers))
+      × (bytes ≡ putList bytes₀ 0 (run golden s₀ (stepsFrom records 0 m) .bytes))))
 
   pub going-starts : Going 0 0 s₀ answers₀ bytes₀
   going-starts =
@@ -57,7 +57,7 @@ module _ (golden records : List ℕ) (m : ℕ) (s₀ : Store) (answers₀ bytes�
     pub going-turn : Going i p s answers bytes → i < m → (o : Option Step) → o ≡ stepAt records p → isStep o ≡ true
         → {after : Store} {answer byte : ℕ} → answer ≡ attempt golden s o .answer → byte ≡ attempt golden s o .byte → after ≡ attempt golden s o .after
         → Going (i + 1) (p + recordBytes) after (set answers i answer) (set bytes i byte)
-    unfolding isStep attempt andThen run
+    unfolding isStep attempt andThen run putList
     going-turn g h none e t a b r = absurd (false≢true t)
     going-turn g h (some step) e t a b r =
         let q : stepsFrom records p (m - i) ≡ step ∷ stepsFrom records (p + recordBytes) (m - (i + 1)) = next i p h ∙ rw (← e) refl in
@@ -74,7 +74,7 @@ module _ (golden records : List ℕ) (m : ℕ) (s₀ : Store) (answers₀ bytes�
 
     -- no record is left
     ended : Going i p s answers bytes → stepsFrom records p (m - i) ≡ [] → Ended i s answers bytes
-    unfolding run
+    unfolding run putList
     ended g e =
         let n = rw e at (g .counted) in
         (omega arith, (sym (rw e at (g .reaching)), (sym (rw e at (g .answering)), sym (rw e at (g .giving)))))

@@ -5,7 +5,9 @@ use mathlib.Core.Path.{_≡_, sym, _∙_, ap}
 use Prim.Native.Nat.{ℕ, zero, suc, _+_, _≤_}
 use native.Mathlib.Omega.{arith}
 use lib.ListN.{length, take, drop, getD}
-use lib.Seq.{drop-at, sets, sets-eq, take-append-seam}
+use lib.Seq.{drop-at, take-append-seam}
+use Rattle.words.specs.Lists.{putList}
+use Rattle.words.proofs.Lists.{putList-between}
 use Rattle.rules.specs.Store.{Store}
 use Rattle.rules.specs.Begin.{beginOutcome}
 use Rattle.rules.specs.Steps.{Step, begins, obey, run}
@@ -44,11 +46,9 @@ run-upholds-demand3 golden s steps B byte earlier later earlierAnswers laterAnsw
       never = rw (← said) (d .never);
     }
 
--- what stands in an output, over which a list was laid
-standing : (xs vs : List ℕ) (n : ℕ) → n ≡ length vs → n ≤ length xs → take n (sets xs 0 vs) ≡ vs
-standing xs vs n e h =
-    let h′ : 0 + length vs ≤ length xs = omega arith in
-    rw (sets-eq vs xs 0 h′, e) (take-append-seam vs (drop (0 + length vs) xs))
+-- what stands in an output, over which a list was stored
+standing : (xs vs : List ℕ) (n : ℕ) → n ≡ length vs → n ≤ length xs → take n (putList xs 0 vs) ≡ vs
+standing xs vs n e h = rw (putList-between xs 0 vs (omega arith), e) (take-append-seam vs (drop (0 + length vs) xs))
 
 -- there are no more steps than there is room for
 within-room : (records : List ℕ) (p m : ℕ) → length (stepsFrom records p m) ≤ m
@@ -63,8 +63,8 @@ within-room records p (suc m) = go (stepAt records p) (stepsFrom records (p + re
 pub runner-upholds-demand3 : (golden : List ℕ) (s : Store) (records answers₀ bytes₀ : List ℕ) {n : ℕ} {left : Store} {answers bytes : List ℕ}
     → n ≡ length (stepsIn records (room answers₀ bytes₀))
     → left ≡ ran golden s records answers₀ bytes₀ .reached
-    → answers ≡ sets answers₀ 0 (ran golden s records answers₀ bytes₀ .answers)
-    → bytes ≡ sets bytes₀ 0 (ran golden s records answers₀ bytes₀ .bytes)
+    → answers ≡ putList answers₀ 0 (ran golden s records answers₀ bytes₀ .answers)
+    → bytes ≡ putList bytes₀ 0 (ran golden s records answers₀ bytes₀ .bytes)
     → Upholds golden s (stepsIn records (room answers₀ bytes₀)) left (take n answers) (take n bytes)
 runner-upholds-demand3 golden s records answers₀ bytes₀ {n} {left} {answers} {bytes} e l a b =
     let steps = stepsIn records (room answers₀ bytes₀) in

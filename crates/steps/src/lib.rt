@@ -1,7 +1,7 @@
 // Lists of steps: records of calls, obeyed one after the other by the monitor's exported calls.
 ghost use mathlib.Core.Path.{_≡_};
 ghost use lib.ListN.{length, take};
-ghost use lib.Seq.{sets};
+ghost use Rattle.words.specs.Lists.{putList};
 ghost use Rattle.rules.specs.Store.{lent};
 ghost use Rattle.steps.specs.Records.{ran, room, stepsIn};
 ghost use Rattle.steps.specs.Upheld.{Upholds};
@@ -23,8 +23,8 @@ pub extern "C" fn pagemon_run(
 ) -> usize
     ensures { λ r. ⌜ r ≡ length (stepsIn (now (records .entry)) (room (now (answers .entry)) (now (bytes .entry)))) ⌝ }
     ensures { λ r. ⌜ lent (now (memory .exit)) (now (ledger .exit)) ≡ ran (now (golden .entry)) (lent (now (memory .entry)) (now (ledger .entry))) (now (records .entry)) (now (answers .entry)) (now (bytes .entry)) .reached ⌝ }
-    ensures { λ r. ⌜ now (answers .exit) ≡ sets (now (answers .entry)) 0 (ran (now (golden .entry)) (lent (now (memory .entry)) (now (ledger .entry))) (now (records .entry)) (now (answers .entry)) (now (bytes .entry)) .answers) ⌝ }
-    ensures { λ r. ⌜ now (bytes .exit) ≡ sets (now (bytes .entry)) 0 (ran (now (golden .entry)) (lent (now (memory .entry)) (now (ledger .entry))) (now (records .entry)) (now (answers .entry)) (now (bytes .entry)) .bytes) ⌝ }
+    ensures { λ r. ⌜ now (answers .exit) ≡ putList (now (answers .entry)) 0 (ran (now (golden .entry)) (lent (now (memory .entry)) (now (ledger .entry))) (now (records .entry)) (now (answers .entry)) (now (bytes .entry)) .answers) ⌝ }
+    ensures { λ r. ⌜ now (bytes .exit) ≡ putList (now (bytes .entry)) 0 (ran (now (golden .entry)) (lent (now (memory .entry)) (now (ledger .entry))) (now (records .entry)) (now (answers .entry)) (now (bytes .entry)) .bytes) ⌝ }
     ensures { λ r. ⌜ Upholds (now (golden .entry)) (lent (now (memory .entry)) (now (ledger .entry))) (stepsIn (now (records .entry)) (room (now (answers .entry)) (now (bytes .entry)))) (lent (now (memory .exit)) (now (ledger .exit))) (take r (now (answers .exit))) (take r (now (bytes .exit))) ⌝ }
 {
     runner::run_records(memory, ledger, golden, records, answers, bytes)

@@ -7,7 +7,7 @@ use crate::step::obey;
 ghost use mathlib.Core.Path.{_≡_};
 ghost use Prim.Native.Nat.{min};
 ghost use lib.ListN.{length};
-ghost use lib.Seq.{sets};
+ghost use Rattle.words.specs.Lists.{putList};
 ghost use Rattle.rules.specs.Store.{lent};
 ghost use Rattle.steps.specs.Meaning.{held};
 ghost use Rattle.steps.specs.Records.{ran, room, stepsIn};
@@ -55,8 +55,8 @@ pub fn run_records(
 ) -> usize
     ensures { λ r. ⌜ r ≡ length (stepsIn (now (records .entry)) (room (now (answers .entry)) (now (bytes .entry)))) ⌝ }
     ensures { λ r. ⌜ lent (now (memory .exit)) (now (ledger .exit)) ≡ ran (now (golden .entry)) (lent (now (memory .entry)) (now (ledger .entry))) (now (records .entry)) (now (answers .entry)) (now (bytes .entry)) .reached ⌝ }
-    ensures { λ r. ⌜ now (answers .exit) ≡ sets (now (answers .entry)) 0 (ran (now (golden .entry)) (lent (now (memory .entry)) (now (ledger .entry))) (now (records .entry)) (now (answers .entry)) (now (bytes .entry)) .answers) ⌝ }
-    ensures { λ r. ⌜ now (bytes .exit) ≡ sets (now (bytes .entry)) 0 (ran (now (golden .entry)) (lent (now (memory .entry)) (now (ledger .entry))) (now (records .entry)) (now (answers .entry)) (now (bytes .entry)) .bytes) ⌝ }
+    ensures { λ r. ⌜ now (answers .exit) ≡ putList (now (answers .entry)) 0 (ran (now (golden .entry)) (lent (now (memory .entry)) (now (ledger .entry))) (now (records .entry)) (now (answers .entry)) (now (bytes .entry)) .answers) ⌝ }
+    ensures { λ r. ⌜ now (bytes .exit) ≡ putList (now (bytes .entry)) 0 (ran (now (golden .entry)) (lent (now (memory .entry)) (now (ledger .entry))) (now (records .entry)) (now (answers .entry)) (now (bytes .entry)) .bytes) ⌝ }
 {
     let room = smaller(answers.len(), bytes.len());
     let mut i = 0;

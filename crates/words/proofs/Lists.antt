@@ -8,7 +8,7 @@ use native.Mathlib.Numerals.{add-one}
 use native.Mathlib.Omega.{arith}
 use lib.ListN.{length, getD, take, drop, set, length-append, length-take, length-drop, length-set, replicate, length-replicate, List·getD-append}
 use lib.Seq.{getD-take, getD-drop, getD-at, take-suc-set, take-all, take-suc, drop-at, take-append-seam, length-take-le, ext-getD, sets, sets-eq}
-use Rattle.words.specs.Lists.{part, tabulate, putBytes}
+use Rattle.words.specs.Lists.{part, tabulate, putList}
 use Rattle.words.proofs.Bounded.{last-or-below}
 
 module _ (f : ℕ → ℕ) where
@@ -52,40 +52,40 @@ part-same xs ys a m e h =
 
 -- Storing a list over another
 
-pub length-putBytes : (xs : List ℕ) (a : ℕ) (ys : List ℕ) → length (putBytes xs a ys) ≡ length xs
-unfolding putBytes
-length-putBytes xs a [] = refl
-length-putBytes xs a (y ∷ ys) = length-putBytes (set xs a y) (suc a) ys ∙ length-set xs a y
+pub length-putList : (xs : List ℕ) (a : ℕ) (ys : List ℕ) → length (putList xs a ys) ≡ length xs
+unfolding putList
+length-putList xs a [] = refl
+length-putList xs a (y ∷ ys) = length-putList (set xs a y) (suc a) ys ∙ length-set xs a y
 
 -- two lists stored one behind the other are one list stored
-pub putBytes-append : (xs : List ℕ) (a : ℕ) (ys zs : List ℕ) → putBytes (putBytes xs a ys) (a + length ys) zs ≡ putBytes xs a (ys ++ zs)
-unfolding putBytes
-putBytes-append xs a [] zs = rw add-zero refl
-putBytes-append xs a (y ∷ ys) zs = rw (add-suc, ← suc-add) (putBytes-append (set xs a y) (suc a) ys zs)
+pub putList-append : (xs : List ℕ) (a : ℕ) (ys zs : List ℕ) → putList (putList xs a ys) (a + length ys) zs ≡ putList xs a (ys ++ zs)
+unfolding putList
+putList-append xs a [] zs = rw add-zero refl
+putList-append xs a (y ∷ ys) zs = rw (add-suc, ← suc-add) (putList-append (set xs a y) (suc a) ys zs)
 
 -- the turn of a loop that stores element after element
-pub putBytes-turn : (xs : List ℕ) (a : ℕ) (ys : List ℕ) (i : ℕ) {zs : List ℕ} → i < length ys → zs ≡ putBytes xs a (take i ys)
-    → set zs (a + i) (getD ys i 0) ≡ putBytes xs a (take (i + 1) ys)
-unfolding putBytes
-putBytes-turn xs a ys i h e =
+pub putList-turn : (xs : List ℕ) (a : ℕ) (ys : List ℕ) (i : ℕ) {zs : List ℕ} → i < length ys → zs ≡ putList xs a (take i ys)
+    → set zs (a + i) (getD ys i 0) ≡ putList xs a (take (i + 1) ys)
+unfolding putList
+putList-turn xs a ys i h e =
     let l = length-take-le i ys (omega arith) in
-    rw (e, add-one, take-suc ys i 0 h) (rw l at (putBytes-append xs a (take i ys) (getD ys i 0 ∷ [])))
+    rw (e, add-one, take-suc ys i 0 h) (rw l at (putList-append xs a (take i ys) (getD ys i 0 ∷ [])))
 
 -- the library's run of stores
-stores : (xs : List ℕ) (a : ℕ) (ys : List ℕ) → putBytes xs a ys ≡ sets xs a ys
-unfolding putBytes
+stores : (xs : List ℕ) (a : ℕ) (ys : List ℕ) → putList xs a ys ≡ sets xs a ys
+unfolding putList
 stores xs a [] = refl
 stores xs a (y ∷ ys) = stores (set xs a y) (suc a) ys
 
 -- what is stored, between what stands before and behind it
-pub putBytes-between : (xs : List ℕ) (a : ℕ) (ys : List ℕ) → a + length ys ≤ length xs → putBytes xs a ys ≡ take a xs ++ ys ++ drop (a + length ys) xs
-putBytes-between xs a ys h = stores xs a ys ∙ sets-eq ys xs a h
+pub putList-between : (xs : List ℕ) (a : ℕ) (ys : List ℕ) → a + length ys ≤ length xs → putList xs a ys ≡ take a xs ++ ys ++ drop (a + length ys) xs
+putList-between xs a ys h = stores xs a ys ∙ sets-eq ys xs a h
 
 -- what was stored is read back
-pub part-putBytes : (xs : List ℕ) (a : ℕ) (ys : List ℕ) → a + length ys ≤ length xs → part (putBytes xs a ys) a (length ys) ≡ ys
+pub part-putList : (xs : List ℕ) (a : ℕ) (ys : List ℕ) → a + length ys ≤ length xs → part (putList xs a ys) a (length ys) ≡ ys
 unfolding part
-part-putBytes xs a ys h =
-    rw (putBytes-between xs a ys h, append-assoc, drop-at (take a xs) (ys ++ drop (a + length ys) xs) a (length-take-le a xs (omega arith)))
+part-putList xs a ys h =
+    rw (putList-between xs a ys h, append-assoc, drop-at (take a xs) (ys ++ drop (a + length ys) xs) a (length-take-le a xs (omega arith)))
     (take-append-seam ys (drop (a + length ys) xs))
 
 -- A loop that fills an array of n elements

@@ -13,6 +13,6 @@ tabulate f zero = []
 tabulate f (suc n) = tabulate f n ++ (f n ∷ [])
 
 -- xs with ys stored over its own elements from place a on, as far as xs reaches
-unfoldable pub putBytes : List ℕ → ℕ → List ℕ → List ℕ
-putBytes xs a [] = xs
-putBytes xs a (y ∷ ys) = putBytes (set xs a y) (suc a) ys
+unfoldable pub putList : List ℕ → ℕ → List ℕ → List ℕ
+putList xs a [] = xs
+putList xs a (y ∷ ys) = putList (set xs a y) (suc a) ys

@@ -2,7 +2,7 @@
 ghost use mathlib.Core.Path.{_≡_};
 ghost use Prim.Native.Nat.{_+_, _*_, _^_, _<_, _≤_};
 ghost use lib.ListN.{length};
-ghost use Rattle.words.specs.Lists.{putBytes};
+ghost use Rattle.words.specs.Lists.{putList};
 ghost use Rattle.words.specs.Words.{bits, word, putWord};
 
 pub const WORD_SIZE: usize = 4;
@@ -44,7 +44,7 @@ pub fn bits(v: u32, lo: u32, n: u32) -> u32
 // Stores the bytes from a place on.
 pub fn put_bytes(s: &mut [u8], at: usize, bytes: &[u8])
     requires { ⌜ at + length (now bytes) ≤ length (now s) ⌝ }
-    ensures { λ r. ⌜ now (s .exit) ≡ putBytes (now (s .entry)) at (now (bytes .entry)) ⌝ }
+    ensures { λ r. ⌜ now (s .exit) ≡ putList (now (s .entry)) at (now (bytes .entry)) ⌝ }
 {
     for i in 0..bytes.len() {
         s[at + i] = bytes[i];

@@ -4,32 +4,32 @@ use Prim.Native.Nat.{_-_, _≤_}
 use native.Mathlib.Omega.{arith}
 use lib.ListN.{length, take}
 use lib.Seq.{take-all}
-use Rattle.words.specs.Lists.{putBytes}
-use Rattle.words.proofs.Lists.{length-putBytes, putBytes-turn}
+use Rattle.words.specs.Lists.{putList}
+use Rattle.words.proofs.Lists.{length-putList, putList-turn}
 use Rattle.words.proofs.put_bytes.Statement.{statement}
 use Rattle.words.proofs.put_bytes.Tie as tie
 
 abbrev Inv-loop : tie.InvT-loop
-Inv-loop s₀ at bytes i₀ i-end s i = (i ≤ length bytes) × (s ≡ putBytes s₀ at (take i bytes))
+Inv-loop s₀ at bytes i₀ i-end s i = (i ≤ length bytes) × (s ≡ putList s₀ at (take i bytes))
 
 abbrev μ-loop : tie.MeasureT-loop
 μ-loop s₀ at bytes i₀ i-end s i = length bytes - i
 
 loop-holds : tie.Need-loop-holds Inv-loop μ-loop
-unfolding putBytes
+unfolding putList
 loop-holds c = (omega arith, refl)
 
 slice-write-s : tie.Need-slice-write-s Inv-loop μ-loop
-slice-write-s c = rw (c .before .before .loop .inv .1) (simp length-putBytes (omega arith))
+slice-write-s c = rw (c .before .before .loop .inv .1) (simp length-putList (omega arith))
 
 loop-again : tie.Need-loop-again Inv-loop μ-loop
 loop-again c =
     let a = c .before .before .before .args in
     let at = c .before .before .loop in
-    (omega arith, putBytes-turn (a .s .now) (a .at) (a .bytes .now) (at .i) (omega arith) (at .inv .1))
+    (omega arith, putList-turn (a .s .now) (a .at) (a .bytes .now) (at .i) (omega arith) (at .inv .1))
 
 same-length : tie.Need-same-length Inv-loop μ-loop
-same-length c = ap length (c .before .loop .inv .1) ∙ simp length-putBytes
+same-length c = ap length (c .before .loop .inv .1) ∙ simp length-putList
 
 returns : tie.Need-returns Inv-loop μ-loop
 returns c =
