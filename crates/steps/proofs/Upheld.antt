@@ -1,8 +1,7 @@
 -- Demand 3 holds of what every run leaves and hands out: from an accepted begin on, the run is one of the lists of the theorem.
 use mathlib.Core.List.{List, _∷_, _++_}
-use mathlib.Core.Option.{Option, none, some}
 use mathlib.Core.Path.{_≡_, sym, _∙_, ap}
-use Prim.Native.Nat.{ℕ, zero, suc, _+_, _≤_}
+use Prim.Native.Nat.{ℕ, _+_, _≤_}
 use native.Mathlib.Omega.{arith}
 use lib.ListN.{length, take, drop, getD}
 use lib.Seq.{drop-at, take-append-seam}
@@ -13,8 +12,9 @@ use Rattle.rules.specs.Begin.{beginOutcome}
 use Rattle.rules.specs.Steps.{Step, begins, obey, run}
 use Rattle.rules.proofs.Demand3.{demand3, at-the-end}
 use Rattle.rules.proofs.Runs.{length-answers, length-bytes, reached-append, answers-append, bytes-append}
-use Rattle.steps.specs.Records.{recordBytes, stepAt, andThen, stepsFrom, stepsIn, room, ran}
+use Rattle.steps.specs.Records.{stepsIn, room, ran}
 use Rattle.steps.specs.Upheld.{Upholds}
+use Rattle.steps.proofs.Decoding.{within-room}
 
 -- lists that agree behind beginnings of one length agree in what follows
 behind : (n : ℕ) (begin other xs ys : List ℕ) → length begin ≡ n → length other ≡ n → begin ++ xs ≡ other ++ ys → xs ≡ ys
@@ -49,15 +49,6 @@ run-upholds-demand3 golden s steps B byte earlier later earlierAnswers laterAnsw
 -- what stands in an output, over which a list was stored
 standing : (xs vs : List ℕ) (n : ℕ) → n ≡ length vs → n ≤ length xs → take n (putList xs 0 vs) ≡ vs
 standing xs vs n e h = rw (putList-between xs 0 vs (omega arith), e) (take-append-seam vs (drop (0 + length vs) xs))
-
--- there are no more steps than there is room for
-within-room : (records : List ℕ) (p m : ℕ) → length (stepsFrom records p m) ≤ m
-unfolding stepsFrom andThen
-within-room records p zero = omega arith
-within-room records p (suc m) = go (stepAt records p) (stepsFrom records (p + recordBytes) m) (within-room records (p + recordBytes) m) where
-  go : (o : Option Step) (rest : List Step) → length rest ≤ m → length (andThen o rest) ≤ suc m
-  go none rest l = omega arith
-  go (some step) rest l = omega arith
 
 -- so demand 3 holds of exactly the bytes that the runner leaves and hands out
 pub runner-upholds-demand3 : (golden : List ℕ) (s : Store) (records answers₀ bytes₀ : List ℕ) {n : ℕ} {left : Store} {answers bytes : List ℕ}

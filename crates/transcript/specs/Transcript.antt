@@ -2,12 +2,13 @@
 use mathlib.Core.Bool.{Bool, cond, _&&_, _||_}
 use mathlib.Core.List.{List, [], _++_}
 use Prim.Native.Nat.{ℕ, zero, suc, _+_, _*_}
-use lib.Dec.{eqb}
-use lib.ListN.{getD}
+use lib.Dec.{eqb, ltb}
+use lib.ListN.{length, getD}
 use Rattle.lines.specs.declared.Line.{Line}
-use Rattle.lines.specs.declared.Line.the-variants.{Answer, AnswerWithByte}
+use Rattle.lines.specs.declared.Line.the-variants.{Answer, AnswerWithByte, Bad}
 use Rattle.lines.specs.Lines.{textOf}
-use Rattle.steps.specs.Records.{recordBytes}
+use Rattle.rules.specs.Steps.{Step}
+use Rattle.steps.specs.Records.{recordBytes, stepsIn}
 
 -- "12 read", "14 fetch"
 abbrev pub givesByte : ℕ → Bool
@@ -22,3 +23,17 @@ unfoldable pub transcript : List ℕ → List ℕ → List ℕ → ℕ → List 
 transcript records answers bytes zero = []
 transcript records answers bytes (suc n) =
     transcript records answers bytes n ++ textOf (lineOf (getD records (recordBytes * n + 2) 0) (getD answers n 0) (getD bytes n 0))
+
+-- "A wrong mark, a call byte not listed or a short record prints `bad`, a space and the number of records obeyed before it, and ends": what is
+-- printed of a list of which n records are obeyed, with so many obeyed earlier
+unfoldable pub printed : List ℕ → List ℕ → List ℕ → ℕ → ℕ → List ℕ
+printed records answers bytes n earlier =
+    transcript records answers bytes n ++ cond (ltb (recordBytes * n) (length records)) (textOf (Bad (earlier + n))) []
+
+-- the records that are obeyed at a time
+abbrev pub batch : ℕ
+batch = 2048
+
+-- the steps of a batch
+abbrev pub batchSteps : List ℕ → List Step
+batchSteps records = stepsIn records batch
