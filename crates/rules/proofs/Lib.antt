@@ -17,6 +17,11 @@ pub mod Unmapping
 pub mod Linking
 pub mod Mapping
 pub mod Demand3
+pub mod Passing
+pub mod Accessible
+pub mod Removals
+pub mod Exchange
+pub mod Policies
 pub mod Runs
 pub mod Accepted
 pub mod SmallStores
