@@ -36,18 +36,18 @@ use Rattle.rules.proofs.Passing.{settle-answer, inside, one-block, no-m
 use Rattle.rules.proofs.Removals.{none-unaccepted, none-astray}
 
 -- entry i of the L2 block p is e, and no other entry lets the guest write or execute in the signed data block t, nor execute in block p
-record Alone (B : ℕ) (h : Told) (s : Store) (p i t : ℕ) (e : Entry) : Type 0 where
-  table-low : B ≤ p
-  table-high : p < B + blocks s
-  table : h .types p ≡ code l2
-  index : i < entries l2
-  low : B ≤ t
-  high : t < B + blocks s
-  free : h .types t ≡ typeD
-  signs : certified (h .golden) B (s .memory) t ≡ true
-  holds : entryAt l2 (s .memory) (blockWords * (p - B) + i) ≡ e
-  only : recorded s writable (t - B) + recorded s executable (t - B) ≡ num (gives writable e t) + num (gives executable e t)
-  holder-unexecuted : recorded s executable (p - B) ≡ 0
+pub record Alone (B : ℕ) (h : Told) (s : Store) (p i t : ℕ) (e : Entry) : Type 0 where
+  pub table-low : B ≤ p
+  pub table-high : p < B + blocks s
+  pub table : h .types p ≡ code l2
+  pub index : i < entries l2
+  pub low : B ≤ t
+  pub high : t < B + blocks s
+  pub free : h .types t ≡ typeD
+  pub signs : certified (h .golden) B (s .memory) t ≡ true
+  pub holds : entryAt l2 (s .memory) (blockWords * (p - B) + i) ≡ e
+  pub only : recorded s writable (t - B) + recorded s executable (t - B) ≡ num (gives writable e t) + num (gives executable e t)
+  pub holder-unexecuted : recorded s executable (p - B) ≡ 0
 
 gain-one : (x : ℕ → Entry) (c : Counter) (q : ℕ) → gain 1 x c q ≡ num (gives c (x 0) q)
 unfolding gain sum
@@ -194,10 +194,10 @@ module _ {h : Told} {s : Store} (r : Running h s) {p i t q : ℕ} (a : Alone (ba
 -- One step
 
 -- an accepted step: the state goes on, and e is the entry now
-record Went (h : Told) (s : Store) (call : Step) (p i t : ℕ) (e : Entry) : Type 0 where
-  accepted : obey (h .golden) s call .answer ≡ 0
-  runs : Running h (obey (h .golden) s call .after)
-  alone : Alone (h .B) h (obey (h .golden) s call .after) p i t e
+pub record Went (h : Told) (s : Store) (call : Step) (p i t : ℕ) (e : Entry) : Type 0 where
+  pub accepted : obey (h .golden) s call .answer ≡ 0
+  pub runs : Running h (obey (h .golden) s call .after)
+  pub alone : Alone (h .B) h (obey (h .golden) s call .after) p i t e
 
 -- a call that tells nothing and whose last refusal is 13
 goes : {h : Told} {s : Store} → Running h s → {p i t : ℕ} {e : Entry} (call : Step) (rs : List Refusal) (after : Store) → obey (h .golden) s call ≡ settle (answerOf rs) s after 0
@@ -217,43 +217,66 @@ module _ {h : Told} {s : Store} (r : Running h s) {p i t : ℕ} where
       let a = subst (λ (b : ℕ). Alone b h s p i t e) (r .told-base) alone in
       goes r (unmaps pages p i) (unmapRefusals pages s p i) (unmapAfter pages s p i) refl refl (accepted-unless 13 _ (unmap-passes r a)) (unmap-alone r a)
 
-  map-goes : {q : ℕ} → misfitImage (h .golden) ≡ false → Grantable q → Alone (h .B) h s p i t fault → Went h s (maps pages p i t q) p i t (page t q)
+  pub map-goes : {q : ℕ} → misfitImage (h .golden) ≡ false → Grantable q → Alone (h .B) h s p i t fault → Went h s (maps pages p i t q) p i t (page t q)
   unfolding obey mapOutcome heard told
   map-goes {q} image g alone =
       let a = subst (λ (b : ℕ). Alone b h s p i t fault) (r .told-base) alone in
       goes r (maps pages p i t q) (mapRefusals pages (h .golden) s p i t q) (entered s p i 1 (page t q)) refl refl (accepted-unless 13 _ (map-passes r a image g)) (map-alone r a image g)
 
--- There and back
+-- A page that is mapped to be read and written
 
--- the entry is sound and counted, so that its target is data and not executable
-alone-of : {h : Told} {s : Store} → Running h s → {p i t : ℕ} → WritableByOneEntry h s p i t → Alone (h .B) h s p i t (page t 3)
-unfolding gives grants allows rights covers first size num
-alone-of {h} {s} r {p} {i} {t} w = go (subst (λ (b : ℕ). Inv b (blocks s) h s) (sym (r .told-base)) r) where
-  go : Inv (h .B) (blocks s) h s → Alone (h .B) h s p i t (page t 3)
-  go v =
-      let (p-low, p-high) = w .inside in
-      let small = w .index in
-      let k = v .consistent in
-      let j = blockWords * (p - h .B) + i in
-      let is : entryOf (h .B) h (s .memory) j ≡ page t 3 = entryOf-table (h .B) h (s .memory) j p (omega arith) l2 (w .table) ∙ w .maps in
-      let sound : Sound (h .B) (blocks s) (typeAt (h .B) h) (page t 3) = rw is at (k .sound j (omega arith)) in
-      let (low, high) = place-within (h .B) (blocks s) (page t 3) (omega arith) (sound .inside) in
-      let at : h .B + (t - h .B) ≡ t = omega arith in
-      let reached : (leb t t && ltb t (t + 1)) ≡ true = rw (le-leb t t (omega arith), lt-ltb t (t + 1) (omega arith)) refl in
-      let one = safe r .honest writable (t - h .B) (omega arith) ∙ w .alone in
-      let none = k .exclusive (t - h .B) (omega arith) (omega arith) in
+page-gives : (t : ℕ) → (gives writable (page t 3) t ≡ true) × (gives executable (page t 3) t ≡ false)
+unfolding gives grants allows rights covers first size
+page-gives t = (rw (le-leb t t (omega arith), lt-ltb t (t + 1) (omega arith)) refl, refl)
+
+module _ {h : Told} {s : Store} (r : Running h s) {p i t : ℕ} where
+  -- the entry is sound and counted, so that its target is data and not executable
+  alone-of : WritableByOneEntry h s p i t → Alone (h .B) h s p i t (page t 3)
+  unfolding first size num
+  alone-of w = go (subst (λ (b : ℕ). Inv b (blocks s) h s) (sym (r .told-base)) r) where
+    go : Inv (h .B) (blocks s) h s → Alone (h .B) h s p i t (page t 3)
+    go v =
+        let (p-low, p-high) = w .inside in
+        let small = w .index in
+        let k = v .consistent in
+        let j = blockWords * (p - h .B) + i in
+        let is : entryOf (h .B) h (s .memory) j ≡ page t 3 = entryOf-table (h .B) h (s .memory) j p (omega arith) l2 (w .table) ∙ w .entry in
+        let sound : Sound (h .B) (blocks s) (typeAt (h .B) h) (page t 3) = rw is at (k .sound j (omega arith)) in
+        let (low, high) = place-within (h .B) (blocks s) (page t 3) (omega arith) (sound .inside) in
+        let at : h .B + (t - h .B) ≡ t = omega arith in
+        let (writes, executes) = page-gives t in
+        let one = safe r .honest writable (t - h .B) (omega arith) ∙ w .alone in
+        let none = k .exclusive (t - h .B) (omega arith) (omega arith) in
+        record {
+          table-low = p-low;
+          table-high = p-high;
+          table = w .table;
+          index = small;
+          low = low;
+          high = omega arith;
+          free = ap (h .types) (sym at) ∙ sound .suits writable (t - h .B) (omega arith) (rw at writes);
+          signs = w .signs;
+          holds = w .entry;
+          only = rw (one, none, writes, executes) refl;
+          holder-unexecuted = safe r .honest executable (p - h .B) (omega arith) ∙ w .holder;
+        }
+
+  pub of-alone : Alone (h .B) h s p i t (page t 3) → WritableByOneEntry h s p i t
+  unfolding num
+  of-alone a =
+      let (writes, executes) = page-gives t in
+      let counts = given-counted r (subst (λ (b : ℕ). Alone b h s p i t (page t 3)) (r .told-base) a) writable in
+      let one : recorded s writable (t - h .B) ≡ 1 = omega (arith, rw (writes, executes) at (a .only), rw (writes, ← r .told-base) at counts) in
+      let low = a .low in
+      let high = a .high in
       record {
-        table-low = p-low;
-        table-high = p-high;
-        table = w .table;
-        index = small;
-        low = low;
-        high = omega arith;
-        free = ap (h .types) (sym at) ∙ sound .suits writable (t - h .B) (omega arith) (rw (at, reached) refl);
-        signs = w .signs;
-        holds = w .maps;
-        only = rw (one, none, reached) refl;
-        holder-unexecuted = safe r .honest executable (p - h .B) (omega arith) ∙ w .holder;
+        inside = (a .table-low, a .table-high);
+        table = a .table;
+        index = a .index;
+        entry = a .holds;
+        alone = sym (safe r .honest writable (t - h .B) (omega arith)) ∙ one;
+        holder = sym (safe r .honest executable (p - h .B) (omega arith)) ∙ a .holder-unexecuted;
+        signs = a .signs;
       }
 
 pub in-turn : {h : Told} {s : Store} → Running h s → {p i t : ℕ} → misfitImage (h .golden) ≡ false → WritableByOneEntry h s p i t

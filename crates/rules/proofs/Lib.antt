@@ -27,3 +27,4 @@ pub mod Accepted
 pub mod SmallStores
 pub mod Witnesses
 pub mod TableWitnesses
+pub mod Blank

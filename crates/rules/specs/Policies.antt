@@ -72,7 +72,7 @@ pub record WritableByOneEntry (h : Told) (s : Store) (p i t : ℕ) : Type 0 wher
   pub inside : (h .B ≤ p) × (p < h .B + blocks s)
   pub table : h .types p ≡ code l2
   pub index : i < entries l2
-  pub maps : entryAt l2 (s .memory) (blockWords * (p - h .B) + i) ≡ page t 3
+  pub entry : entryAt l2 (s .memory) (blockWords * (p - h .B) + i) ≡ page t 3
   pub alone : counted h s writable (t - h .B) ≡ 1
   pub holder : counted h s executable (p - h .B) ≡ 0
   pub signs : certified (h .golden) (h .B) (s .memory) t ≡ true
