@@ -1,31 +1,36 @@
 -- The policies of source document 002 hold of a running state: a walk ends at an entry of the tables that grants what the walk grants, and
 -- that entry is counted, so the counters' claims are claims about walks.
 use mathlib.Core.Bool.{true}
-use mathlib.Core.Logic.{_⊎_, inl, inr, ⊎-elim}
+use mathlib.Core.List.{List}
+use mathlib.Core.Logic.{_≢_, _⊎_, inl, inr, ⊎-elim}
 use mathlib.Core.Path.{_≡_, refl, sym, _∙_}
-use Prim.Native.Nat.{ℕ, _+_, _-_, _*_, _%_, _^_, _<_, _≤_}
+use Prim.Native.Nat.{ℕ, _+_, _-_, _*_, _/_, _%_, _^_, _<_, _≤_}
 use native.Mathlib.Decide.{ℕ-discrete}
 use native.Mathlib.Omega.{arith}
 use lib.ListN.{set}
 use Rattle.words.proofs.Lists.{getD-part}
-use Rattle.entries.specs.Entries.{Entry, rights}
+use Rattle.entries.specs.Entries.{Entry, Level, l1, l2, entryAt, rights}
 use Rattle.rules.specs.Refusals.{answerOf}
-use Rattle.rules.specs.Store.{blockBytes, Store, blocks, base, Counter, writable, executable}
+use Rattle.rules.specs.Store.{blockBytes, blockWords, Store, blocks, base, Counter, writable, executable}
 use Rattle.rules.specs.Signature.{contents, certified}
-use Rattle.rules.specs.Tables.{Right, write, execute, allows, grants}
+use Rattle.rules.specs.Tables.{typeD, code, Right, write, execute, allows, grants}
 use Rattle.rules.specs.Guest.{byteIndex, Access, reads, fetches, writes, needed, activeWalk, guestRefusals, written, byteGiven, guestAfter, guestOutcome}
 use Rattle.rules.specs.Steps.{Told}
-use Rattle.rules.specs.Policies.{Accessible, Exclusive, InWorkingSet, Integrity, AltersWritableOnly, KeepsWorkingSet, FetchedCode}
-use Rattle.rules.proofs.Memory.{contents-set}
+use Rattle.rules.specs.Policies.{Accessible, Exclusive, InWorkingSet, Integrity, AltersWritableOnly, KeepsWorkingSet, KeepsWalks, FetchedCode}
+use Rattle.rules.proofs.Memory.{contents-entry, contents-set}
 use Rattle.rules.proofs.State.{entryOf, recorded, Running, settle-keeps, settle-accepted}
-use Rattle.rules.proofs.Walk.{Reached, walk-sensible}
-use Rattle.rules.proofs.Guests.{Arrived, arrived, arrived-counted}
+use Rattle.rules.proofs.Walk.{Reached, walk-sensible, walk-same}
+use Rattle.rules.proofs.Guests.{Arrived, arrived, arrived-counted, guest-guarded}
 
 -- block p of the region is counted by c
 record Counted (s : Store) (c : Counter) (p : ℕ) : Type 0 where
   low : base s ≤ p
   high : p < base s + blocks s
   some-entry : 0 < recorded s c (p - base s)
+
+not-data : (v : Level) → code v ≢ typeD
+not-data l1 e = omega arith
+not-data l2 e = omega arith
 
 module _ {h : Told} {s : Store} (r : Running h s) where
   -- What a walk grants at a moment
@@ -105,6 +110,18 @@ module _ {h : Told} {s : Store} (r : Running h s) where
       let based = r .told-base in
       let is : h .B + (p - h .B) ≡ p = omega arith in
       ⊎-elim (λ same. same) (λ as-data. absurd (exclusive p (rw is at as-data) as-code)) (guest-alters a addr (p - h .B) (omega arith))
+
+  -- no table is written, so that every walk reads the entries it read before
+  pub guest-keeps-walks : (a : Access) (addr : ℕ) → KeepsWalks h s (guestOutcome a s addr .after)
+  guest-keeps-walks a addr table va root =
+      rw (r .told-base) (walk-same r va mem kept table (rw (r .told-base) at root)) where
+        mem : List ℕ
+        mem = guestOutcome a s addr .after .memory
+
+        kept : (v : Level) (j : ℕ) → (j < blockWords * blocks s) × (h .types (base s + j / blockWords) ≡ code v) → entryAt v mem j ≡ entryAt v (s .memory) j
+        kept v j (inside, typed) =
+            let b = j / blockWords in
+            contents-entry v mem (s .memory) b j (guest-guarded r a addr b (omega arith) (λ z. not-data v (sym typed ∙ rw (r .told-base) at z))) refl
 
   -- what is fetched is executed
   fetches-code : (addr : ℕ) → Arrived h s fetches addr → FetchedCode h s addr (byteGiven fetches (s .memory) (byteIndex (base s) addr (activeWalk s addr)))

@@ -17,7 +17,7 @@ use Rattle.rules.proofs.State.{Running}
 use Rattle.rules.proofs.Starting.{begin-accepted}
 use Rattle.rules.proofs.Demand3.{history-golden, reached, moment}
 use Rattle.rules.proofs.Passing.{settle-answer, switch-accepted}
-use Rattle.rules.proofs.Accessible.{exclusive, integrity, guest-alters, guest-keeps-working-set, guest-fetches-code}
+use Rattle.rules.proofs.Accessible.{exclusive, integrity, guest-alters, guest-keeps-working-set, guest-keeps-walks, guest-fetches-code}
 use Rattle.rules.proofs.Removals.{free-never, unmap-never}
 use Rattle.rules.proofs.Exchange.{in-turn}
 
@@ -35,6 +35,9 @@ module _ (golden : List ℕ) {B : ℕ} {s : Store} (r : Running (begun B golden)
         keeps-working-set = λ i a addr e.
             let m = moment golden refl r steps i (accesses a addr) e in
             rw (m .told-is, m .store-is, m .after-is) (guest-keeps-working-set (m .runs) a addr);
+        keeps-walks = λ i a addr e.
+            let m = moment golden refl r steps i (accesses a addr) e in
+            rw (m .told-is, m .store-is, m .after-is) (guest-keeps-walks (m .runs) a addr);
         fetched = λ i addr byte e accepted given.
             let m = moment golden refl r steps i (accesses fetches addr) e in
             let zero-is : obey golden (m .store) (accesses fetches addr) .answer ≡ 0 = cc (m .answer-is, accepted) in

@@ -59,6 +59,10 @@ AltersWritableOnly h s after = (b : ℕ) → b < blocks s → (contents (after .
 abbrev pub KeepsWorkingSet : Told → Store → Store → Type 0
 KeepsWorkingSet h s after = (p : ℕ) → InWorkingSet h s p → contents (after .memory) (p - h .B) ≡ contents (s .memory) (p - h .B)
 
+-- the guest alters no walk: "For every va, PL, acc we have mmu(σ, va, PL, acc) = mmu(σ′, va, PL, acc)" (proposition 2.4)
+abbrev pub KeepsWalks : Told → Store → Store → Type 0
+KeepsWalks h s after = (table addr : ℕ) → Switchable h s table → walk (h .B) (blocks s) (after .memory) table addr ≡ walk (h .B) (blocks s) (s .memory) table addr
+
 -- a byte fetched is the working set's: a byte of a block that is signed as it stands
 pub record FetchedCode (h : Told) (s : Store) (addr byte : ℕ) : Type 0 where
   pub block : ℕ
@@ -95,6 +99,8 @@ pub record Policies (golden : List ℕ) (B : ℕ) (s : Store) (steps : List Step
       → AltersWritableOnly (toldAt golden B s steps i) (storeAt golden s steps i) (storeAt golden s steps (suc i))
   pub keeps-working-set : (i : ℕ) (a : Access) (addr : ℕ) → getElem? steps i ≡ some (accesses a addr)
       → KeepsWorkingSet (toldAt golden B s steps i) (storeAt golden s steps i) (storeAt golden s steps (suc i))
+  pub keeps-walks : (i : ℕ) (a : Access) (addr : ℕ) → getElem? steps i ≡ some (accesses a addr)
+      → KeepsWalks (toldAt golden B s steps i) (storeAt golden s steps i) (storeAt golden s steps (suc i))
   -- what the guest executes
   pub fetched : (i addr byte : ℕ) → getElem? steps i ≡ some (accesses fetches addr)
       → getElem? (run golden s steps .answers) i ≡ some 0 → getElem? (run golden s steps .bytes) i ≡ some byte
