@@ -32,7 +32,7 @@ use Rattle.rules.proofs.State.{recorded, entryOf, Running, settle-accep
 use Rattle.rules.proofs.Starting.{begin-accepted}
 use Rattle.rules.proofs.Creating.{create-next}
 use Rattle.rules.proofs.Passing.{settle-answer, inside, no-misfit, right-type}
-use Rattle.rules.proofs.Exchange.{Alone, map-goes, of-alone}
+use Rattle.rules.proofs.InTurn.{Alone, map-goes, of-alone}
 use Rattle.rules.proofs.Policies.{policies}
 use Rattle.rules.proofs.Runs.{answers-append}
 use Rattle.rules.proofs.SmallStores.{memory, length-memory, first-entry, rest-entry, ledger, lent, fit}
@@ -197,5 +197,5 @@ writable-reached = let (answers-are, one-entry) = two-steps in rw answers-are on
 -- and six steps in a row are accepted
 pub six-accepted : run golden started (tableAndPage 0 0 5 ++ thereAndBack 0 0 5) .answers ≡ (0 ∷ 0 ∷ 0 ∷ 0 ∷ 0 ∷ 0 ∷ [])
 six-accepted =
-    let back = policies golden (lent 0 ledger) 0 begins-zeros (tableAndPage 0 0 5) .in-turn (lawful-digest (contents (memory 0) 5)) 2 0 0 5 writable-reached in
+    let back = policies golden (lent 0 ledger) 0 begins-zeros (tableAndPage 0 0 5) .in-turn (lawful-digest (contents (memory 0) 5)) 0 0 5 2 writable-reached in
     answers-append golden started (tableAndPage 0 0 5) (thereAndBack 0 0 5) ∙ rw (two-steps .0, back) refl

@@ -20,7 +20,7 @@ pub mod Demand3
 pub mod Passing
 pub mod Accessible
 pub mod Removals
-pub mod Exchange
+pub mod InTurn
 pub mod Policies
 pub mod Runs
 pub mod Accepted

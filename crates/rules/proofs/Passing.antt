@@ -15,7 +15,7 @@ use Rattle.rules.specs.Tables.{code, tableBlocks}
 use Rattle.rules.specs.General.{otherType}
 use Rattle.rules.specs.Switch.{switchRefusals, switchAfter, switchOutcome}
 use Rattle.rules.specs.Steps.{Told, told}
-use Rattle.rules.specs.Policies.{Switchable}
+use Rattle.rules.specs.Policies.{Switchable, SwitchesToTables}
 use Rattle.rules.proofs.Refusals.{done, step, passed, accepted}
 use Rattle.rules.proofs.State.{Running, type-told, settle-accepted}
 use Rattle.rules.proofs.Starting.{switch-runs}
@@ -56,8 +56,7 @@ module _ {h : Told} {s : Store} (r : Running h s) where
   right-type v p t low high typed =
       any-avoids (λ k. neqb (typeOf s (p + k)) t) (tableBlocks v) (λ k l. same (typeOf s (p + k)) t (type-told r (p + k) (omega arith) (omega arith) ∙ typed k l))
 
-  -- a switch is accepted to an L1 table told, and to nothing else
-  pub switch-accepted : (p : ℕ) → (switchOutcome s p .answer ≡ 0 → Switchable h s p) × (Switchable h s p → switchOutcome s p .answer ≡ 0)
+  pub switch-accepted : SwitchesToTables h s
   unfolding switchOutcome told
   switch-accepted p = (to-table, from-table) where
     to-table : switchOutcome s p .answer ≡ 0 → Switchable h s p

@@ -47,8 +47,8 @@ module _ {h : Told} {s : Store} (r : Running h s) where
     pub none-astray : (m : ℕ) (index : ℕ → ℕ) → ((k : ℕ) → k < m → index k < entries v) → any m (λ k. astray (base s) (blocks s) (tableEntry v s p (index k))) ≡ false
     none-astray = no-entry (astray (base s) (blocks s)) (λ e good. good .inside)
 
-  pub free-never : (v : Level) (p : ℕ) → (answerOf (freeRefusals v s p) ≢ 8) × (answerOf (freeRefusals v s p) ≢ 10)
-  free-never v p = (
+  pub free-sound : (v : Level) (p : ℕ) → (answerOf (freeRefusals v s p) ≢ 8) × (answerOf (freeRefusals v s p) ≢ 10)
+  free-sound v p = (
     middle-avoided 8 (take 5 rs) (any (entries v) (λ i. isUnaccepted (tableEntry v s p i))) (drop 6 rs) (λ e. omega arith) (omega arith)
         (λ t. let t2 = rest t in none-unaccepted v p (now t2) (now (rest (rest t2))) (entries v) (λ i. i) (λ i l. l)) (omega arith),
     middle-avoided 10 (take 6 rs) (any (entries v) (λ i. astray (base s) (blocks s) (tableEntry v s p i))) (drop 7 rs) (λ e. omega arith) (omega arith)
@@ -57,8 +57,8 @@ module _ {h : Told} {s : Store} (r : Running h s) where
     rs : List Refusal
     rs = freeRefusals v s p
 
-  pub unmap-never : (f : Form) (p i : ℕ) → (answerOf (unmapRefusals f s p i) ≢ 8) × (answerOf (unmapRefusals f s p i) ≢ 10)
-  unmap-never f p i = (
+  pub unmap-sound : (f : Form) (p i : ℕ) → (answerOf (unmapRefusals f s p i) ≢ 8) × (answerOf (unmapRefusals f s p i) ≢ 10)
+  unmap-sound f p i = (
     middle-avoided 8 (take 6 rs) (any (words f) (λ k. isUnaccepted (entry k))) (drop 7 rs) (λ e. omega arith) (omega arith)
         (λ t. let t2 = rest t in let t4 = rest (rest t2) in none-unaccepted v p (now t2) (now (rest t4)) (words f) (λ k. i + k) (in-table (now t4))) (omega arith),
     middle-avoided 10 (take 7 rs) (any (words f) (λ k. astray (base s) (blocks s) (entry k))) (drop 8 rs) (λ e. omega arith) (omega arith)

@@ -28,6 +28,10 @@ pub record Root (B n : ℕ) (types : ℕ → ℕ) (p : ℕ) : Type 0 where
 abbrev pub Switchable : Told → Store → ℕ → Type 0
 Switchable h s p = Root (h .B) (blocks s) (h .types) p
 
+-- a switch is accepted to these tables, and to nothing else
+abbrev pub SwitchesToTables : Told → Store → Type 0
+SwitchesToTables h s = (p : ℕ) → (switchOutcome s p .answer ≡ 0 → Switchable h s p) × (Switchable h s p → switchOutcome s p .answer ≡ 0)
+
 -- "if there exists at least one virtual mapping pointing to the block with a guest writable access permission. Similarly .. executable"
 -- (section 3): some address leads to physical block p with this right, through some such table
 pub record Accessible (h : Told) (s : Store) (right : Right) (p : ℕ) : Type 0 where
@@ -85,32 +89,41 @@ pub record WritableByOneEntry (h : Told) (s : Store) (p i t : ℕ) : Type 0 wher
 abbrev pub thereAndBack : ℕ → ℕ → ℕ → List Step
 thereAndBack p i t = unmaps pages p i ∷ maps pages p i t 5 ∷ unmaps pages p i ∷ maps pages p i t 3 ∷ []
 
--- what holds of the list that runs from store s, which a begin with B left
-pub record Policies (golden : List ℕ) (B : ℕ) (s : Store) (steps : List Step) : Type 0 where
-  -- at the start, after each step, and so at the end: W ⊕ X, and "no code injection can succeed" (proposition 3)
-  pub exclusive : (i : ℕ) → Exclusive (toldAt golden B s steps i) (storeAt golden s steps i)
-  pub integrity : (i : ℕ) → Integrity (toldAt golden B s steps i) (storeAt golden s steps i)
-  -- a switch would be accepted to these tables, and to no other block
-  pub switchable : (i p : ℕ)
-      → (switchOutcome (storeAt golden s steps i) p .answer ≡ 0 → Switchable (toldAt golden B s steps i) (storeAt golden s steps i) p)
-      × (Switchable (toldAt golden B s steps i) (storeAt golden s steps i) p → switchOutcome (storeAt golden s steps i) p .answer ≡ 0)
-  -- what the guest's steps leave alone
-  pub alters-writable : (i : ℕ) (a : Access) (addr : ℕ) → getElem? steps i ≡ some (accesses a addr)
-      → AltersWritableOnly (toldAt golden B s steps i) (storeAt golden s steps i) (storeAt golden s steps (suc i))
-  pub keeps-working-set : (i : ℕ) (a : Access) (addr : ℕ) → getElem? steps i ≡ some (accesses a addr)
-      → KeepsWorkingSet (toldAt golden B s steps i) (storeAt golden s steps i) (storeAt golden s steps (suc i))
-  pub keeps-walks : (i : ℕ) (a : Access) (addr : ℕ) → getElem? steps i ≡ some (accesses a addr)
-      → KeepsWalks (toldAt golden B s steps i) (storeAt golden s steps i) (storeAt golden s steps (suc i))
-  -- what the guest executes
-  pub fetched : (i addr byte : ℕ) → getElem? steps i ≡ some (accesses fetches addr)
-      → getElem? (run golden s steps .answers) i ≡ some 0 → getElem? (run golden s steps .bytes) i ≡ some byte
-      → FetchedCode (toldAt golden B s steps i) (storeAt golden s steps i) addr byte
-  -- free is validated "always", unmap if "ρex(bl) = 0" (table 2): no entry of the tables gives them 8 or 10
-  pub free-never : (i k : ℕ) (v : Level) (p : ℕ) → getElem? steps i ≡ some (frees v p) → getElem? (run golden s steps .answers) i ≡ some k → (k ≢ 8) × (k ≢ 10)
-  pub unmap-never : (i k : ℕ) (f : Form) (p j : ℕ) → getElem? steps i ≡ some (unmaps f p j) → getElem? (run golden s steps .answers) i ≡ some k → (k ≢ 8) × (k ≢ 10)
-  -- the monitor is not merely strict: code can be made writable and executable in turn
-  pub in-turn : misfitImage golden ≡ false → (i p j t : ℕ) → WritableByOneEntry (toldAt golden B s steps i) (storeAt golden s steps i) p j t
-      → run golden (storeAt golden s steps i) (thereAndBack p j t) .answers ≡ (0 ∷ 0 ∷ 0 ∷ 0 ∷ [])
+-- Lists of steps, from the store s that a begin with B left
+
+module _ (golden : List ℕ) (B : ℕ) (s : Store) (steps : List Step) where
+  -- at the start, after each step, and so at the end
+  abbrev pub Always : (Told → Store → Type 0) → Type 0
+  Always P = (i : ℕ) → P (toldAt golden B s steps i) (storeAt golden s steps i)
+
+  -- from before to after each guest step
+  abbrev pub AtGuestSteps : (Told → Store → Store → Type 0) → Type 0
+  AtGuestSteps P = (i : ℕ) (a : Access) (addr : ℕ) → getElem? steps i ≡ some (accesses a addr)
+      → P (toldAt golden B s steps i) (storeAt golden s steps i) (storeAt golden s steps (suc i))
+
+  -- wherever the list has this step, its answer is neither 8 nor 10
+  abbrev pub MeetsSoundEntries : Step → Type 0
+  MeetsSoundEntries step = (i k : ℕ) → getElem? steps i ≡ some step → getElem? (run golden s steps .answers) i ≡ some k → (k ≢ 8) × (k ≢ 10)
+
+  pub record Policies : Type 0 where
+    -- W ⊕ X, and "no code injection can succeed" (proposition 3)
+    pub exclusive : Always Exclusive
+    pub integrity : Always Integrity
+    -- the tables over which these speak are those to which a switch would be accepted
+    pub switches : Always SwitchesToTables
+    -- what the guest's steps leave alone
+    pub alters-writable : AtGuestSteps AltersWritableOnly
+    pub keeps-working-set : AtGuestSteps KeepsWorkingSet
+    pub keeps-walks : AtGuestSteps KeepsWalks
+    -- what the guest executes
+    pub fetched : (i addr byte : ℕ) → getElem? steps i ≡ some (accesses fetches addr)
+        → getElem? (run golden s steps .answers) i ≡ some 0 → getElem? (run golden s steps .bytes) i ≡ some byte
+        → FetchedCode (toldAt golden B s steps i) (storeAt golden s steps i) addr byte
+    -- free is validated "always", unmap if "ρex(bl) = 0" (table 2): no entry of a table is held against them
+    pub free-sound : (v : Level) (p : ℕ) → MeetsSoundEntries (frees v p)
+    pub unmap-sound : (f : Form) (p j : ℕ) → MeetsSoundEntries (unmaps f p j)
+    -- the monitor is not merely strict: code can be made writable and executable in turn
+    pub in-turn : misfitImage golden ≡ false → (p j t : ℕ) → Always (λ h now. WritableByOneEntry h now p j t → run golden now (thereAndBack p j t) .answers ≡ (0 ∷ 0 ∷ 0 ∷ 0 ∷ []))
 
 -- every list that starts from what an accepted begin leaves, as in demand 3
 abbrev pub Policies-hold : Type 0
