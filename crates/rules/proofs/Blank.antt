@@ -1,4 +1,5 @@
--- A table can be made of any block of a memory without entries: no counter is above 0, and faults are neither unaccepted nor misplaced.
+-- A table can be made of any block of a memory without entries: no counter is above 0, and faults are neither unaccepted nor misplaced. So a
+-- list of two steps comes to a signed page that one entry alone makes writable.
 use mathlib.Core.Bool.{Bool, true, false, not, cond}
 use mathlib.Core.List.{List, [], _∷_, _++_}
 use mathlib.Core.Logic.{_≢_, _⊎_, inl, inr}
