@@ -3,18 +3,14 @@ use mathlib.Core.List.{List, [], _∷_}
 use mathlib.Core.Option.{some, Option·none-ne-some}
 use mathlib.Core.Path.{_≡_, refl, _∙_, subst}
 use Prim.Native.Nat.{ℕ, zero, suc}
-use native.Mathlib.Omega.{arith}
 use lib.ListN.{length, take, getElem?}
 use lib.Seq.{take-length}
-use Rattle.rules.specs.Refusals.{answerOf}
 use Rattle.rules.specs.Store.{Store}
-use Rattle.rules.specs.Begin.{beginRefusals, beginAfter, beginOutcome}
 use Rattle.rules.specs.Guest.{fetches}
 use Rattle.rules.specs.Steps.{Step, begins, creates, frees, maps, links, unmaps, switches, accesses, obey, run, Told, begun, told, heard, history}
 use Rattle.rules.specs.Demand3.{Safe, Demand3, Demand3-holds}
-use Rattle.rules.proofs.Refusals.{passed}
-use Rattle.rules.proofs.State.{Running, safe, Next, settle-accepted}
-use Rattle.rules.proofs.Starting.{begin-runs, begin-next, switch-next}
+use Rattle.rules.proofs.State.{Running, safe, Next}
+use Rattle.rules.proofs.Starting.{begin-accepted, begin-next, switch-next}
 use Rattle.rules.proofs.Creating.{create-next}
 use Rattle.rules.proofs.Freeing.{free-next}
 use Rattle.rules.proofs.Unmapping.{unmap-next}
@@ -46,6 +42,12 @@ heard-golden zero h (unmaps f p i) = refl
 heard-golden zero h (switches p) = refl
 heard-golden zero h (accesses a addr) = refl
 heard-golden (suc k) h step = refl
+
+pub history-golden : (h : Told) (steps : List Step) (answers : List ℕ) → history h steps answers .golden ≡ h .golden
+unfolding history
+history-golden h [] answers = refl
+history-golden h (step ∷ steps) [] = refl
+history-golden h (step ∷ steps) (k ∷ answers) = history-golden (heard k h step) steps answers ∙ heard-golden k h step
 
 module _ (golden : List ℕ) where
   -- a step of a list that is lent this golden image
@@ -135,11 +137,7 @@ module _ (golden : List ℕ) where
 
 -- every list that starts from what an accepted begin leaves
 pub demand3 : Demand3-holds
-unfolding beginOutcome
-demand3 golden lent B accepted steps =
-    let rs = beginRefusals lent B in
-    let (zero-is, after-is, _) = settle-accepted lent (beginAfter lent B) (answerOf rs) 0 accepted in
-    demanded golden (rw after-is (begin-runs lent B golden (passed rs (omega arith) zero-is))) steps
+demand3 golden lent B accepted steps = demanded golden (begin-accepted lent B golden accepted) steps
 
 -- so it holds of the very store that a list reaches, with all its answers
 pub at-the-end : {golden : List ℕ} {B : ℕ} {s : Store} {steps : List Step} → Demand3 golden B s steps

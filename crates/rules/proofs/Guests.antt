@@ -85,7 +85,7 @@ module _ {h : Told} {s : Store} (r : Running h s) where
         let (table, switched, actives) = the-table e in
         record { table = table; level = v; block = p; given = w; switched = switched; actives = actives; walked = q; allowed = not-false (allows w (needed a)) (now t); reached = rw q at (sensible e) }
 
-    arrived : answerOf (guestRefusals a s addr) ≡ 0 → Arrived h s a addr
+    pub arrived : answerOf (guestRefusals a s addr) ≡ 0 → Arrived h s a addr
     arrived accepted = go (noActiveTable s) refl where
       go : (t : Bool) → noActiveTable s ≡ t → Arrived h s a addr
       go true e = absurd (barred (misfit s (base s)) (walkRefusals a (activeWalk s addr)) 0 (λ q. omega arith) (λ q. omega arith) (rw e at accepted))
@@ -95,7 +95,7 @@ module _ {h : Told} {s : Store} (r : Running h s) where
           arrives e (activeWalk s addr) refl (rest (rest t))
 
   -- the entry that a walk ended at is counted for what it grants
-  arrived-counted : (c : Counter) {p w : ℕ} (e : Reached (base s) (blocks s) (entryOf (base s) h (s .memory)) p w)
+  pub arrived-counted : (c : Counter) {p w : ℕ} (e : Reached (base s) (blocks s) (entryOf (base s) h (s .memory)) p w)
       → grants c (entryOf (base s) h (s .memory) (e .word)) ≡ true → (0 < recordWord (s .ledger) (counterPlace c) (p - base s)) × Suits c (h .types p)
   unfolding gives
   arrived-counted c {p} {w} e g =

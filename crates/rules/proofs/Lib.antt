@@ -17,8 +17,14 @@ pub mod Unmapping
 pub mod Linking
 pub mod Mapping
 pub mod Demand3
+pub mod Passing
+pub mod Accessible
+pub mod Removals
+pub mod InTurn
+pub mod Policies
 pub mod Runs
 pub mod Accepted
 pub mod SmallStores
 pub mod Witnesses
 pub mod TableWitnesses
+pub mod Blank

@@ -1,20 +1,20 @@
 -- Laws of the memory: a store changes the contents of its own block only, and words elsewhere keep their entries.
 use mathlib.Core.List.{List}
 use mathlib.Core.Logic.{⊎-elim}
-use mathlib.Core.Path.{_≡_, refl, _∙_}
-use Prim.Native.Nat.{ℕ, zero, suc, _+_, _-_, _*_, _^_, _<_, _≤_}
+use mathlib.Core.Path.{_≡_, refl, sym, _∙_, ap}
+use Prim.Native.Nat.{ℕ, zero, suc, _+_, _-_, _*_, _/_, _%_, _^_, _<_, _≤_}
 use native.Mathlib.Omega.{arith}
 use lib.ListN.{length, getD, set, length-set}
 use lib.Seq.{getD-set-other}
 use Rattle.words.specs.Words.{word}
 use Rattle.words.proofs.Bounded.{last-or-below, below-or-above}
-use Rattle.words.proofs.Lists.{part-same}
+use Rattle.words.proofs.Lists.{getD-part, part-same}
 use Rattle.words.proofs.Words.{length-putWord, getD-putWord-other, word-cong, word-putWord-same, word-putWord-other}
 use Rattle.entries.specs.Entries.{Entry, Level, entryAt}
 use Rattle.entries.specs.Written.{wordOf, Encodable}
-use Rattle.entries.proofs.Decoding.{entryAt-putWord-other}
+use Rattle.entries.proofs.Decoding.{entryAt-cong, entryAt-putWord-other}
 use Rattle.entries.proofs.RoundTrip.{written-reads-back}
-use Rattle.rules.specs.Store.{blockBytes, fill}
+use Rattle.rules.specs.Store.{blockBytes, blockWords, fill}
 use Rattle.rules.specs.Signature.{contents, certified}
 
 pub length-fill : (mem : List ℕ) (j m v : ℕ) → length (fill mem j m v) ≡ length mem
@@ -71,6 +71,17 @@ entryAt-fill v mem j (suc m) kind e x h i l =
 pub contents-same : (mem mem′ : List ℕ) (b : ℕ) → length mem ≡ length mem′
     → ((i : ℕ) → blockBytes * b ≤ i → i < blockBytes * b + blockBytes → getD mem i 0 ≡ getD mem′ i 0) → contents mem b ≡ contents mem′ b
 contents-same mem mem′ b e h = part-same mem mem′ (blockBytes * b) blockBytes e (λ i l. h (blockBytes * b + i) (omega arith) (omega arith))
+
+-- and the same contents have the same bytes, and the same entries
+pub contents-byte : (mem mem′ : List ℕ) (b i : ℕ) → contents mem b ≡ contents mem′ b → i / blockBytes ≡ b → getD mem i 0 ≡ getD mem′ i 0
+contents-byte mem mem′ b i e in-block =
+    let at : blockBytes * b + i % blockBytes ≡ i = omega arith in
+    let byte : (m : List ℕ) → getD (contents m b) (i % blockBytes) 0 ≡ getD m (blockBytes * b + i % blockBytes) 0 = λ m. getD-part m (blockBytes * b) blockBytes (i % blockBytes) (omega arith) in
+    rw at at (sym (byte mem) ∙ ap (λ (xs : List ℕ). getD xs (i % blockBytes) 0) e ∙ byte mem′)
+
+pub contents-entry : (v : Level) (mem mem′ : List ℕ) (b j : ℕ) → contents mem b ≡ contents mem′ b → j / blockWords ≡ b → entryAt v mem j ≡ entryAt v mem′ j
+contents-entry v mem mem′ b j e in-block =
+    entryAt-cong v mem mem′ j (λ k near. word-cong mem mem′ (4 * k) (λ i lo hi. contents-byte mem mem′ b i e (omega arith)))
 
 pub contents-fill : (mem : List ℕ) (j m v b : ℕ) → (4 * j < blockBytes * b + blockBytes → 4 * (j + m) ≤ blockBytes * b) → contents (fill mem j m v) b ≡ contents mem b
 contents-fill mem j m v b o =

@@ -1,6 +1,6 @@
 -- Laws of refusals: an accepted call has passed every test, and a number that is no refusal of a call is never its answer.
 use mathlib.Core.Bool.{Bool, true, false, false≢true}
-use mathlib.Core.List.{List, [], _∷_}
+use mathlib.Core.List.{List, [], _∷_, _++_}
 use mathlib.Core.Logic.{_≢_}
 use mathlib.Core.Path.{_≡_, refl, sym}
 use Prim.Native.Nat.{ℕ}
@@ -70,3 +70,25 @@ last-avoided k (j if true ∷ []) z n h e = absurd (false≢true (sym (h done)))
 last-avoided k (j if false ∷ []) z n h e = z e
 last-avoided k (j if true ∷ s ∷ rs) z n h e = n .0 e
 last-avoided k (j if false ∷ s ∷ rs) z n h e = last-avoided k (s ∷ rs) z (n .1) (λ p. h (step refl p)) e
+
+-- and a number in the middle, if its test fails wherever those before it do
+pub middle-avoided : (k : ℕ) (before : List Refusal) (t : Bool) (after : List Refusal) → 0 ≢ k → Avoids k before → (Passed before → t ≡ false) → Avoids k after
+    → answerOf (before ++ (k if t ∷ after)) ≢ k
+unfolding answerOf
+middle-avoided k [] true after z n h m e = absurd (false≢true (sym (h done)))
+middle-avoided k [] false after z n h m e = avoided k after z m e
+middle-avoided k (j if true ∷ rs) t after z n h m e = n .0 e
+middle-avoided k (j if false ∷ rs) t after z n h m e = middle-avoided k rs t after z (n .1) (λ p. h (step refl p)) m e
+
+-- a call that passes every test is accepted
+pub accepted : {rs : List Refusal} → Passed rs → answerOf rs ≡ 0
+unfolding answerOf
+accepted done = refl
+accepted (step e p) = rw e (accepted p)
+
+-- and one that passes every test but the last, if the last one's number is not its answer
+pub accepted-unless : (k : ℕ) {before : List Refusal} (t : Bool) → Passed before → answerOf (before ++ (k if t ∷ [])) ≢ k → answerOf (before ++ (k if t ∷ [])) ≡ 0
+unfolding answerOf
+accepted-unless k true done n = absurd (n refl)
+accepted-unless k false done n = refl
+accepted-unless k t (step e p) n = rw e (accepted-unless k t p (rw e at n))

@@ -18,7 +18,7 @@ use Rattle.rules.proofs.Refusals.{Passed, now, rest, passed, avoided}
 use Rattle.rules.proofs.Gains.{gives-fault, gain-none}
 use Rattle.rules.proofs.Consistent.{sound-fault, still}
 use Rattle.rules.proofs.Ledger.{recordWord-put-head, length-retype, length-recount, type-retype-in, type-recount, counter-recount}
-use Rattle.rules.proofs.State.{Fit, fits, fit-same, equal, within, types-told, Root, Running, running, Next, next}
+use Rattle.rules.proofs.State.{Fit, fits, fit-same, equal, within, types-told, Root, Running, running, Next, next, settle-accepted}
 
 module _ (s : Store) (B : ℕ) (golden : List ℕ) where
   abbrev n : ℕ
@@ -68,6 +68,13 @@ module _ (s : Store) (B : ℕ) (golden : List ℕ) where
           signs = λ b l x. let z : ⊥ = omega (arith, counter-begun fit executable b l) in absurd z;
         };
       })
+
+  pub begin-accepted : beginOutcome s B .answer ≡ 0 → Running (begun B golden) (beginOutcome s B .after)
+  unfolding beginOutcome
+  begin-accepted accepted =
+      let rs = beginRefusals s B in
+      let (zero-is, after-is, _) = settle-accepted s (beginAfter s B) (answerOf rs) 0 accepted in
+      rw after-is (begin-runs (passed rs (omega arith) zero-is))
 
 module _ {h : Told} {s : Store} (r : Running h s) (p : ℕ) where
   pub switch-runs : Passed (switchRefusals s p) → Running (told h (switches p)) (switchAfter s p)

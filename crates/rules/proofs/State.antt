@@ -11,14 +11,15 @@ use borrow.Author.Tests.{ltb-false, eqb-true, not-false}
 use lib.Dec.{eqb}
 use Rattle.words.specs.Bounded.{above, neqb}
 use Rattle.words.proofs.Bounded.{or-false-left, or-false-right, any-none}
-use Rattle.entries.specs.Entries.{Entry, Level, l1}
+use Rattle.entries.specs.Entries.{Entry, Level}
 use Rattle.rules.specs.Store.{blockBytes, blockWords, least, most, baseAlignment, physicalBlocks, head, width, noTable, Store, blocks, base, active, recordWord, typePlace, Counter, writable, executable, linked, counterPlace, someCounter, typeOf, outside, someBlock, misfit, Outcome, settle}
 use Rattle.rules.specs.Refusals.{Refusal, answerOf}
 use Rattle.rules.specs.Signature.{certified}
-use Rattle.rules.specs.Tables.{code, tableBlocks, typedEntry}
+use Rattle.rules.specs.Tables.{tableBlocks, typedEntry}
 use Rattle.rules.specs.General.{tableOutside, otherType}
 use Rattle.rules.specs.Steps.{Step, Told, told, heard, afresh}
 use Rattle.rules.specs.Demand3.{Safe}
+pub use Rattle.rules.specs.Policies.{Root}
 use Rattle.rules.proofs.Refusals.{Passed, Avoids, front, lastTest, passed, passed-front, avoided, last-avoided}
 use Rattle.rules.proofs.Consistent.{Consistent}
 
@@ -65,13 +66,6 @@ fit-same after f m l =
 abbrev pub activeWord : Option ℕ → ℕ
 activeWord none = noTable
 activeWord (some p) = p
-
--- an L1 table in the region
-pub record Root (B n : ℕ) (types : ℕ → ℕ) (p : ℕ) : Type 0 where
-  pub low : B ≤ p
-  pub high : p + tableBlocks l1 ≤ B + n
-  pub aligned : p % tableBlocks l1 ≡ 0
-  pub typed : (i : ℕ) → i < tableBlocks l1 → types (p + i) ≡ code l1
 
 -- word j of the memory as an entry, by the tables that the steps told
 abbrev pub entryOf : ℕ → Told → List ℕ → ℕ → Entry

@@ -1,7 +1,8 @@
 -- A walk from a table never meets an entry that is not accepted or leads outside, since the tables' entries are sound, and ends at an entry
 -- of the tables that covers the block it ends in.
 use mathlib.Core.Bool.{Bool, true, false, cond, false≢true}
-use mathlib.Core.Path.{_≡_, refl, sym, ap}
+use mathlib.Core.List.{List}
+use mathlib.Core.Path.{_≡_, refl, sym, _∙_, ap}
 use Prim.Native.Nat.{ℕ, _+_, _-_, _*_, _/_, _%_, _^_, _<_, _≤_}
 use native.Mathlib.Nat.{mod-lt}
 use native.Mathlib.Omega.{arith}
@@ -10,7 +11,7 @@ use Rattle.words.specs.Words.{bits}
 use Rattle.entries.specs.Entries.{Entry, fault, unaccepted, link, section, page, Level, l1, l2, entryAt, isFault, isUnaccepted, isLink, rights, first, size, covers}
 use Rattle.words.proofs.Fields.{bits-bound}
 use Rattle.rules.specs.Store.{blockBytes, blockWords, Store, blocks, base, linked}
-use Rattle.rules.specs.Tables.{gives, grants, astray, blockTables, l2Words}
+use Rattle.rules.specs.Tables.{code, gives, grants, astray, blockTables, l2Words}
 use Rattle.rules.specs.Guest.{Walk, stops, ends, passes, endsAt, secondEntry, follow, walk}
 use Rattle.rules.specs.Steps.{Told}
 use Rattle.rules.proofs.Consistent.{Sound}
@@ -80,22 +81,48 @@ module _ {h : Told} {s : Store} (r : Running h s) (addr : ℕ) where
   abbrev Good : Walk → Type 0
   Good = Sensible (base s) (blocks s) tables
 
-  -- through a link: it leads to an L2 block, whose entries are sound
-  through-link : (place : ℕ) → Sound (base s) (blocks s) types (link place)
-      → Good (passes l2 (base s) (blocks s) (secondEntry (base s) (s .memory) addr place) (endsAt l2 addr (secondEntry (base s) (s .memory) addr place)))
+  -- word j lies in a block of a table of level v
+  abbrev InTable : Level → ℕ → Type 0
+  InTable v j = (j < blockWords * blocks s) × (h .types (base s + j / blockWords) ≡ code v)
+
+  table-entry : (v : Level) (j : ℕ) → InTable v j → (tables j ≡ entryAt v (s .memory) j) × Sound (base s) (blocks s) types (entryAt v (s .memory) j)
+  table-entry v j (inside, typed) =
+      let is : tables j ≡ entryAt v (s .memory) j = entryOf-table (base s) h (s .memory) j (base s + j / blockWords) refl v typed in
+      (is, rw is at (r .consistent .sound j inside))
+
+  -- the words that a walk reads
+  abbrev firstWord : ℕ → ℕ
+  firstWord p = blockWords * (p - base s) + bits addr 20 12
+
+  abbrev secondWord : ℕ → ℕ
+  secondWord place = l2Words * (place - blockTables * base s) + bits addr 12 8
+
+  first-word : (p : ℕ) → Root (base s) (blocks s) (h .types) p → InTable l1 (firstWord p)
+  first-word p root =
+      let i = bits addr 20 12 in
+      let small : i < 2 ^ 12 = bits-bound addr 20 12 in
+      let low = root .low in
+      let high = root .high in
+      (omega arith, ap (h .types) (word-block (base s) p i low) ∙ root .typed (i / blockWords) (omega arith))
+
+  -- a link leads to an L2 block
+  second-word : (place : ℕ) → Sound (base s) (blocks s) types (link place) → InTable l2 (secondWord place)
   unfolding size first gives grants isLink covers
-  through-link place sound =
+  second-word place sound =
       let (low, high) = place-within (base s) (blocks s) (link place) (omega arith) (sound .inside) in
       let b = place / 4 - base s in
-      let j = l2Words * (place - blockTables * base s) + bits addr 12 8 in
-      let in-block : base s + j / blockWords ≡ base s + b = omega arith in
-      let inside : j < blockWords * blocks s = omega arith in
+      let in-block : base s + secondWord place / blockWords ≡ base s + b = omega arith in
       let leads : gives linked (link place) (base s + b) ≡ true =
       rw (le-leb (place / 4) (base s + b) (omega arith), lt-ltb (base s + b) (place / 4 + 1) (omega arith)) refl in
-      let e = entryAt l2 (s .memory) j in
-      let is : tables j ≡ e = entryOf-table (base s) h (s .memory) j (base s + b) in-block l2 (sound .suits linked b (omega arith) leads) in
-      let good : Sound (base s) (blocks s) types e = rw is at (r .consistent .sound j inside) in
-      at-entry (base s) (blocks s) types tables l2 (endsAt l2 addr e) e good (at-end (base s) (blocks s) types tables l2 addr j e is inside good)
+      (omega arith, ap (h .types) in-block ∙ sound .suits linked b (omega arith) leads)
+
+  through-link : (place : ℕ) → Sound (base s) (blocks s) types (link place)
+      → Good (passes l2 (base s) (blocks s) (secondEntry (base s) (s .memory) addr place) (endsAt l2 addr (secondEntry (base s) (s .memory) addr place)))
+  through-link place sound =
+      let e = secondEntry (base s) (s .memory) addr place in
+      let word = second-word place sound in
+      let (is, good) = table-entry l2 (secondWord place) word in
+      at-entry (base s) (blocks s) types tables l2 (endsAt l2 addr e) e good (at-end (base s) (blocks s) types tables l2 addr (secondWord place) e is (word .0) good)
 
   onward : (j : ℕ) (e : Entry) → tables j ≡ e → j < blockWords * blocks s → Sound (base s) (blocks s) types e → isFault e ≡ false
       → Good (follow (base s) (blocks s) (s .memory) addr e)
@@ -110,13 +137,24 @@ module _ {h : Told} {s : Store} (r : Running h s) (addr : ℕ) where
   pub walk-sensible : (p : ℕ) → Root (base s) (blocks s) (h .types) p → Good (walk (base s) (blocks s) (s .memory) p addr)
   unfolding walk
   walk-sensible p root =
-      let i = bits addr 20 12 in
-      let j = blockWords * (p - base s) + i in
-      let low = root .low in
-      let high = root .high in
-      let small : i < 2 ^ 12 = bits-bound addr 20 12 in
-      let inside : j < blockWords * blocks s = omega arith in
-      let e = entryAt l1 (s .memory) j in
-      let is : tables j ≡ e = entryOf-table (base s) h (s .memory) j (p + i / blockWords) (word-block (base s) p i low) l1 (root .typed (i / blockWords) (omega arith)) in
-      let good : Sound (base s) (blocks s) types e = rw is at (r .consistent .sound j inside) in
-      at-entry (base s) (blocks s) types tables l1 (follow (base s) (blocks s) (s .memory) addr e) e good (onward j e is inside good)
+      let word = first-word p root in
+      let (is, good) = table-entry l1 (firstWord p) word in
+      let e = entryAt l1 (s .memory) (firstWord p) in
+      at-entry (base s) (blocks s) types tables l1 (follow (base s) (blocks s) (s .memory) addr e) e good (onward (firstWord p) e is (word .0) good)
+
+  -- a memory with the same entries in the tables has the same walks
+  module _ (mem : List ℕ) (same : (v : Level) (j : ℕ) → InTable v j → entryAt v mem j ≡ entryAt v (s .memory) j) where
+    follow-same : (e : Entry) → Sound (base s) (blocks s) types e → follow (base s) (blocks s) mem addr e ≡ follow (base s) (blocks s) (s .memory) addr e
+    unfolding follow
+    follow-same fault good = refl
+    follow-same unaccepted good = refl
+    follow-same (link place) good = rw (same l2 (secondWord place) (second-word place good)) refl
+    follow-same (section b w) good = refl
+    follow-same (page b w) good = refl
+
+    pub walk-same : (p : ℕ) → Root (base s) (blocks s) (h .types) p → walk (base s) (blocks s) mem p addr ≡ walk (base s) (blocks s) (s .memory) p addr
+    unfolding walk
+    walk-same p root =
+        let word = first-word p root in
+        let e = entryAt l1 (s .memory) (firstWord p) in
+        rw (same l1 (firstWord p) word) (ap (passes l1 (base s) (blocks s) e) (follow-same e (table-entry l1 (firstWord p) word .1)))

@@ -13,3 +13,4 @@ pub mod Switch
 pub mod Guest
 pub mod Steps
 pub mod Demand3
+pub mod Policies

@@ -1,0 +1,143 @@
+-- The policies of source document 002 hold of a running state: a walk ends at an entry of the tables that grants what the walk grants, and
+-- that entry is counted, so the counters' claims are claims about walks.
+use mathlib.Core.Bool.{true}
+use mathlib.Core.List.{List}
+use mathlib.Core.Logic.{_≢_, _⊎_, inl, inr, ⊎-elim}
+use mathlib.Core.Path.{_≡_, refl, sym, _∙_}
+use Prim.Native.Nat.{ℕ, _+_, _-_, _*_, _/_, _%_, _^_, _<_, _≤_}
+use native.Mathlib.Decide.{ℕ-discrete}
+use native.Mathlib.Omega.{arith}
+use lib.ListN.{set}
+use Rattle.words.proofs.Lists.{getD-part}
+use Rattle.entries.specs.Entries.{Entry, Level, l1, l2, entryAt, rights}
+use Rattle.rules.specs.Refusals.{answerOf}
+use Rattle.rules.specs.Store.{blockBytes, blockWords, Store, blocks, base, Counter, writable, executable}
+use Rattle.rules.specs.Signature.{contents, certified}
+use Rattle.rules.specs.Tables.{typeD, code, Right, write, execute, allows, grants}
+use Rattle.rules.specs.Guest.{byteIndex, Access, reads, fetches, writes, needed, activeWalk, guestRefusals, written, byteGiven, guestAfter, guestOutcome}
+use Rattle.rules.specs.Steps.{Told}
+use Rattle.rules.specs.Policies.{Accessible, Exclusive, InWorkingSet, Integrity, AltersWritableOnly, KeepsWorkingSet, KeepsWalks, FetchedCode}
+use Rattle.rules.proofs.Memory.{contents-entry, contents-set}
+use Rattle.rules.proofs.State.{entryOf, recorded, Running, settle-keeps, settle-accepted}
+use Rattle.rules.proofs.Walk.{Reached, walk-sensible, walk-same}
+use Rattle.rules.proofs.Guests.{Arrived, arrived, arrived-counted, guest-guarded}
+
+-- block p of the region is counted by c
+record Counted (s : Store) (c : Counter) (p : ℕ) : Type 0 where
+  low : base s ≤ p
+  high : p < base s + blocks s
+  some-entry : 0 < recorded s c (p - base s)
+
+not-data : (v : Level) → code v ≢ typeD
+not-data l1 e = omega arith
+not-data l2 e = omega arith
+
+module _ {h : Told} {s : Store} (r : Running h s) where
+  -- What a walk grants at a moment
+
+  accessible-counted : (c : Counter) (right : Right) → ((e : Entry) → grants c e ≡ allows (rights e) right) → (p : ℕ) → Accessible h s right p → Counted s c p
+  accessible-counted c right is p a =
+      let end = walk-sensible r (a .address) (a .table) (rw (r .told-base) at (a .switchable)) in
+      let e : Reached (base s) (blocks s) (entryOf (base s) h (s .memory)) p (a .rights) = rw (rw (r .told-base) at (a .walked)) at end in
+      let granted : grants c (entryOf (base s) h (s .memory) (e .word)) ≡ true = is _ ∙ rw (e .has) (a .allowed) in
+      record { low = e .low; high = e .high; some-entry = arrived-counted r c e granted .0 }
+
+  writable-counted : (p : ℕ) → Accessible h s write p → Counted s writable p
+  unfolding grants
+  writable-counted = accessible-counted writable write (λ e. refl)
+
+  executable-counted : (p : ℕ) → InWorkingSet h s p → Counted s executable p
+  unfolding grants
+  executable-counted = accessible-counted executable execute (λ e. refl)
+
+  pub exclusive : Exclusive h s
+  exclusive p as-data as-code =
+      let w = writable-counted p as-data in
+      let x = executable-counted p as-code in
+      omega (arith, w .low, w .high, x .some-entry, r .consistent .exclusive (p - base s) (omega arith) (w .some-entry))
+
+  pub integrity : Integrity h s
+  integrity p as-code =
+      let x = executable-counted p as-code in
+      let low = x .low in
+      let high = x .high in
+      let is : base s + (p - base s) ≡ p = omega arith in
+      rw (r .told-base) (rw is at (r .consistent .signs (p - base s) (omega arith) (x .some-entry)))
+
+  -- What a guest step does
+
+  -- an accepted access is through the table of the last accepted switch
+  arrived-accessible : (a : Access) (addr : ℕ) (t : Arrived h s a addr) → Accessible h s (needed a) (t .block)
+  arrived-accessible a addr t =
+      record {
+        table = t .table;
+        address = addr;
+        level = t .level;
+        rights = t .given;
+        switchable = rw (r .told-base) (r .root (t .table) (t .switched));
+        walked = rw (r .told-base) (rw (t .actives) at (t .walked));
+        allowed = t .allowed;
+      }
+
+  access-alters : (a : Access) (addr : ℕ) → Arrived h s a addr → AltersWritableOnly h s (guestAfter a s addr)
+  unfolding written byteIndex needed
+  access-alters reads addr t b l = inl refl
+  access-alters fetches addr t b l = inl refl
+  access-alters (writes v) addr t b l = rw (t .walked) (go (ℕ-discrete (t .block - base s) b)) where
+    j : ℕ
+    j = blockBytes * (t .block - base s) + addr % blockBytes
+
+    go : Dec (t .block - base s ≡ b) → (contents (set (s .memory) j (v % 2 ^ 8)) b ≡ contents (s .memory) b) ⊎ Accessible h s write (h .B + b)
+    go (yes e) =
+        let low = t .reached .low in
+        let based = r .told-base in
+        let is : t .block ≡ h .B + b = omega arith in
+        inr (rw is at (arrived-accessible (writes v) addr t))
+    go (no o) = inl (contents-set (s .memory) j (v % 2 ^ 8) b (λ k. omega arith))
+
+  pub guest-alters : (a : Access) (addr : ℕ) → AltersWritableOnly h s (guestOutcome a s addr .after)
+  unfolding guestOutcome
+  guest-alters a addr =
+      settle-keeps (AltersWritableOnly h s) s (guestAfter a s addr) (answerOf (guestRefusals a s addr)) (byteGiven a (s .memory) (byteIndex (base s) addr (activeWalk s addr)))
+      (λ b l. inl refl) (λ e. access-alters a addr (arrived r a addr e))
+
+  -- what is written is not executed
+  pub guest-keeps-working-set : (a : Access) (addr : ℕ) → KeepsWorkingSet h s (guestOutcome a s addr .after)
+  guest-keeps-working-set a addr p as-code =
+      let x = executable-counted p as-code in
+      let low = x .low in
+      let high = x .high in
+      let based = r .told-base in
+      let is : h .B + (p - h .B) ≡ p = omega arith in
+      ⊎-elim (λ same. same) (λ as-data. absurd (exclusive p (rw is at as-data) as-code)) (guest-alters a addr (p - h .B) (omega arith))
+
+  -- no table is written, so that every walk reads the entries it read before
+  pub guest-keeps-walks : (a : Access) (addr : ℕ) → KeepsWalks h s (guestOutcome a s addr .after)
+  guest-keeps-walks a addr table va root =
+      rw (r .told-base) (walk-same r va mem kept table (rw (r .told-base) at root)) where
+        mem : List ℕ
+        mem = guestOutcome a s addr .after .memory
+
+        kept : (v : Level) (j : ℕ) → (j < blockWords * blocks s) × (h .types (base s + j / blockWords) ≡ code v) → entryAt v mem j ≡ entryAt v (s .memory) j
+        kept v j (inside, typed) =
+            let b = j / blockWords in
+            contents-entry v mem (s .memory) b j (guest-guarded r a addr b (omega arith) (λ z. not-data v (sym typed ∙ rw (r .told-base) at z))) refl
+
+  -- what is fetched is executed
+  fetches-code : (addr : ℕ) → Arrived h s fetches addr → FetchedCode h s addr (byteGiven fetches (s .memory) (byteIndex (base s) addr (activeWalk s addr)))
+  unfolding byteGiven byteIndex needed certified
+  fetches-code addr t =
+      let as-code = arrived-accessible fetches addr t in
+      record {
+        block = t .block;
+        executes = as-code;
+        taken = rw (t .walked, r .told-base) (sym (getD-part (s .memory) (blockBytes * (t .block - base s)) blockBytes (addr % blockBytes) (omega arith)));
+        signs = integrity (t .block) as-code;
+      }
+
+  pub guest-fetches-code : (addr : ℕ) → guestOutcome fetches s addr .answer ≡ 0 → FetchedCode h s addr (guestOutcome fetches s addr .byte)
+  unfolding guestOutcome
+  guest-fetches-code addr e =
+      let (accepted, _, byte) =
+      settle-accepted s (guestAfter fetches s addr) (answerOf (guestRefusals fetches s addr)) (byteGiven fetches (s .memory) (byteIndex (base s) addr (activeWalk s addr))) e in
+      rw byte (fetches-code addr (arrived r fetches addr accepted))

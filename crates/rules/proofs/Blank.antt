@@ -1,0 +1,202 @@
+-- A table can be made of any block of a memory without entries: no counter is above 0, and faults are neither unaccepted nor misplaced. So a
+-- list of two steps comes to a signed page that one entry alone makes writable.
+use mathlib.Core.Bool.{Bool, true, false, not, cond}
+use mathlib.Core.List.{List, [], _∷_, _++_}
+use mathlib.Core.Logic.{_≢_, _⊎_, inl, inr}
+use mathlib.Core.Path.{_≡_, refl, sym, _∙_, ap}
+use Prim.Native.Nat.{ℕ, _+_, _-_, _*_, _/_, _%_, _<_, _≤_}
+use native.Mathlib.Nat.{zero-add, mod-one}
+use native.Mathlib.Omega.{arith}
+use lib.ListN.{getD, take}
+use lib.Dec.{eqb}
+use borrow.Author.Tests.{le-ltb}
+use Rattle.words.specs.Bounded.{above, neqb, any, num}
+use Rattle.words.proofs.Bounded.{below-or-above, any-avoids, same}
+use Rattle.words.proofs.Lists.{length-tabulate}
+use Rattle.signature.specs.Sha256.{digestByte, hash, sha256}
+use Rattle.signature.specs.Signed.{digestBytes, agrees, listed, signed}
+use Rattle.entries.specs.Entries.{Entry, fault, Level, l1, l2, entryAt, l1Entry, l2Entry, isUnaccepted, isLink, rights, size}
+use Rattle.entries.specs.Written.{readWrite}
+use Rattle.rules.specs.Refusals.{answerOf}
+use Rattle.rules.specs.Store.{blockWords, Store, blocks, base, Counter, writable, executable, linked, counter, someCounter, someBlock, someRegionBlock}
+use Rattle.rules.specs.Signature.{misfitImage, contents, certified}
+use Rattle.rules.specs.Tables.{typeD, code, tableBlocks, entries, pages, typedEntry, tableEntry, allows, grants, gain, astray}
+use Rattle.rules.specs.Begin.{beginRefusals, beginAfter, beginOutcome}
+use Rattle.rules.specs.Create.{someCount, misplaced, clash, clashes, unsigned, createRefusals, createOutcome, createAfter}
+use Rattle.rules.specs.Steps.{Step, creates, maps, obey, run, Told, begun, told, heard, history}
+use Rattle.rules.specs.Demand3.{storeAt, toldAt}
+use Rattle.rules.specs.Policies.{WritableByOneEntry, thereAndBack}
+use Rattle.rules.proofs.Refusals.{Passed, done, step, accepted, accepted-unless}
+use Rattle.rules.proofs.Gains.{gives-fault, gain-none}
+use Rattle.rules.proofs.Ledger.{typed-in, typed-out}
+use Rattle.rules.proofs.State.{recorded, entryOf, Running, settle-accepted}
+use Rattle.rules.proofs.Starting.{begin-accepted}
+use Rattle.rules.proofs.Creating.{create-next}
+use Rattle.rules.proofs.Passing.{settle-answer, inside, no-misfit, right-type}
+use Rattle.rules.proofs.InTurn.{Alone, map-goes, of-alone}
+use Rattle.rules.proofs.Policies.{policies}
+use Rattle.rules.proofs.Runs.{answers-append}
+use Rattle.rules.proofs.SmallStores.{memory, length-memory, first-entry, rest-entry, ledger, lent, fit}
+
+-- every word is a fault, at either level
+abbrev Blank : List ℕ → Type 0
+Blank memory = (v : Level) (j : ℕ) → entryAt v memory j ≡ fault
+
+blank-typed : (memory : List ℕ) → Blank memory → (t j : ℕ) → typedEntry t memory j ≡ fault
+unfolding typedEntry
+blank-typed memory blank t j = rw (blank l1 j, blank l2 j) (either (eqb t (code l1)) (eqb t (code l2))) where
+  either : (a b : Bool) → cond a fault (cond b fault fault) ≡ fault
+  either true b = refl
+  either false true = refl
+  either false false = refl
+
+module _ {h : Told} {s : Store} (r : Running h s) (blank : Blank (s .memory)) where
+  pub blank-uncounted : (c : Counter) (b : ℕ) → b < blocks s → recorded s c b ≡ 0
+  blank-uncounted c b l =
+      r .consistent .counts-are c b l
+      ∙ gain-none (blockWords * blocks s) (entryOf (base s) h (s .memory)) c (base s + b) (λ j _. rw (blank-typed (s .memory) blank (h .types (base s + j / blockWords)) j) (gives-fault c (base s + b)))
+
+  module _ (v : Level) (p : ℕ) (image : misfitImage (h .golden) ≡ false) (low : base s ≤ p) (high : p + tableBlocks v ≤ base s + blocks s) (aligned : p % tableBlocks v ≡ 0)
+      (free : (k : ℕ) → k < tableBlocks v → h .types (p + k) ≡ typeD) where
+    abbrev entry : ℕ → Entry
+    entry = tableEntry v s p
+
+    no-gain : (c : Counter) (q : ℕ) → gain (entries v) entry c q ≡ 0
+    no-gain c q = gain-none (entries v) entry c q (λ i _. rw (blank v _) (gives-fault c q))
+
+    no-count : someCount v s p ≡ false
+    unfolding someCount someCounter someBlock
+    no-count =
+        let none : (c : Counter) (k : ℕ) → k < tableBlocks v → above (counter c s (p + k)) 0 ≡ false = λ c k l. le-ltb 0 (counter c s (p + k)) (omega (arith, blank-uncounted c (p + k - base s) (omega arith))) in
+        any-avoids (λ k. someCounter (λ c. above (counter c s (p + k)) 0)) (tableBlocks v) (λ k l. rw (none writable k l, none executable k l, none linked k l) refl)
+
+    no-clash : someRegionBlock s (clashes s (entries v) entry) ≡ false
+    unfolding someBlock clash
+    no-clash = any-avoids (λ k. clashes s (entries v) entry (base s + k)) (blocks s) (λ k l. rw (no-gain writable (base s + k), no-gain executable (base s + k)) refl)
+
+    none-unsigned : someRegionBlock s (unsigned (h .golden) s (entries v) entry) ≡ false
+    unfolding someBlock
+    none-unsigned = any-avoids (λ k. unsigned (h .golden) s (entries v) entry (base s + k)) (blocks s) (λ k l. rw (no-gain executable (base s + k)) refl)
+
+    create-passes : Passed (take 10 (createRefusals v (h .golden) s p))
+    unfolding misplaced astray isUnaccepted isLink rights size grants allows
+    create-passes =
+        step (no-misfit r) (step image (step (inside (base s) (blocks s) p (tableBlocks v) low high) (step (same (p % tableBlocks v) 0 aligned) (step (right-type r v p typeD low high free) (step no-count
+        (step (any-avoids (λ i. isUnaccepted (entry i)) (entries v) (λ i _. rw (blank v _) refl))
+        (step (any-avoids (λ i. misplaced v s p (entry i)) (entries v) (λ i _. rw (blank v _) refl))
+        (step no-clash (step none-unsigned done)))))))))
+
+    pub create-accepted : createOutcome v (h .golden) s p .answer ≡ 0
+    unfolding createOutcome
+    create-accepted =
+        let k = answerOf (createRefusals v (h .golden) s p) in
+        let is = settle-answer k s (createAfter v s p) 0 in
+        is ∙ accepted-unless 13 _ create-passes (λ z. create-next v p r .not-13 (is ∙ z))
+
+-- A page mapped writable by one entry
+
+-- an L2 table is made of block p, and its entry i maps block t to be read and written
+abbrev pub tableAndPage : ℕ → ℕ → ℕ → List Step
+tableAndPage p i t = creates l2 p ∷ maps pages p i t 3 ∷ []
+
+module _ {h : Told} {s : Store} (r : Running h s) (blank : Blank (s .memory)) (image : misfitImage (h .golden) ≡ false) (p i t : ℕ) (index : i < entries l2)
+    (table-in : (h .B ≤ p) × (p < h .B + blocks s)) (page-in : (h .B ≤ t) × (t < h .B + blocks s)) (apart : p ≢ t)
+    (table-free : h .types p ≡ typeD) (page-free : h .types t ≡ typeD) (signs : certified (h .golden) (h .B) (s .memory) t ≡ true) where
+  created : createOutcome l2 (h .golden) s p .answer ≡ 0
+  created =
+      let based = r .told-base in
+      let (low, high) = table-in in
+      create-accepted r blank l2 p image (omega arith) (omega arith) (mod-one p) (λ k l. let z : p + k ≡ p = omega arith in ap (h .types) z ∙ table-free)
+
+  abbrev typed : Told
+  typed = told h (creates l2 p)
+
+  abbrev tabled : Store
+  tabled = createOutcome l2 (h .golden) s p .after
+
+  same-memory : tabled .memory ≡ s .memory
+  unfolding createOutcome
+  same-memory = ap (λ (x : Store). x .memory) (settle-accepted s (createAfter l2 s p) (answerOf (createRefusals l2 (h .golden) s p)) 0 created .1)
+
+  tabled-runs : Running typed tabled
+  unfolding heard
+  tabled-runs = rw created at (create-next l2 p r .runs)
+
+  tabled-alone : Alone (h .B) typed tabled p i t fault
+  unfolding told num
+  tabled-alone =
+      let (low, high) = table-in in
+      let (t-low, t-high) = page-in in
+      let based = tabled-runs .told-base in
+      let same = same-memory in
+      let none : (c : Counter) (b : ℕ) → b < blocks s → recorded tabled c b ≡ 0 = λ c b l. blank-uncounted tabled-runs (rw same-memory blank) c b (rw same-memory l) in
+      record {
+        table-low = low;
+        table-high = rw same-memory high;
+        table = typed-in (h .types) p 1 (code l2) p (omega arith) (omega arith);
+        index = index;
+        low = t-low;
+        high = rw same-memory t-high;
+        free = typed-out (h .types) p 1 (code l2) t (λ l. omega arith) ∙ page-free;
+        signs = rw same-memory signs;
+        holds = rw same-memory (blank l2 (blockWords * (p - h .B) + i));
+        only = rw (gives-fault writable t, gives-fault executable t) (omega (arith, none writable (t - h .B) (omega arith), none executable (t - h .B) (omega arith)));
+        holder-unexecuted = none executable (p - h .B) (omega arith);
+      }
+
+  -- both steps are accepted, and leave what is wanted
+  mapped : (run (h .golden) s (tableAndPage p i t) .answers ≡ (0 ∷ 0 ∷ [])) × WritableByOneEntry typed (run (h .golden) s (tableAndPage p i t) .reached) p i t
+  unfolding run obey told
+  mapped = let m = map-goes tabled-runs image readWrite tabled-alone in (rw (created, m .accepted) refl, of-alone (m .runs) (m .alone))
+
+-- Eight blocks of zeros, and the digest of one of them as golden image
+
+signed-by-own-digest : (block : List ℕ) → signed block (sha256 block) ≡ true
+unfolding signed listed agrees sha256 any
+signed-by-own-digest block =
+    let d = sha256 block in
+    rw (length-tabulate (digestByte (hash block)) 32) (ap not (any-avoids (λ j. neqb (getD d j 0) (getD d (digestBytes * 0 + j) 0)) digestBytes (λ j l. same (getD d j 0) (getD d (0 + j) 0) (ap (λ (k : ℕ). getD d k 0) (sym (zero-add j))))))
+
+lawful-digest : (block : List ℕ) → misfitImage (sha256 block) ≡ false
+unfolding misfitImage sha256
+lawful-digest block = rw (length-tabulate (digestByte (hash block)) 32) refl
+
+abbrev pub golden : List ℕ
+golden = sha256 (contents (memory 0) 5)
+
+begins-zeros : beginOutcome (lent 0 ledger) 0 .answer ≡ 0
+unfolding beginOutcome
+begins-zeros = settle-answer _ _ _ _ ∙ accepted (step (fit 0 ledger refl) done)
+
+abbrev pub started : Store
+started = beginOutcome (lent 0 ledger) 0 .after
+
+started-memory : started .memory ≡ memory 0
+unfolding beginOutcome
+started-memory = ap (λ (x : Store). x .memory) (settle-accepted (lent 0 ledger) (beginAfter (lent 0 ledger) 0) (answerOf (beginRefusals (lent 0 ledger) 0)) 0 begins-zeros .1)
+
+zeros-blank : Blank (memory 0)
+unfolding l1Entry l2Entry
+zeros-blank v j = go v (below-or-above 0 j) where
+  go : (v : Level) → (0 < j) ⊎ (j ≤ 0) → entryAt v (memory 0) j ≡ fault
+  go v (inl h) = rest-entry v 0 j h
+  go l1 (inr h) = let z : j ≡ 0 = omega arith in rw z (first-entry 0 (omega arith) .0)
+  go l2 (inr h) = let z : j ≡ 0 = omega arith in rw z (first-entry 0 (omega arith) .1)
+
+two-steps : (run golden started (tableAndPage 0 0 5) .answers ≡ (0 ∷ 0 ∷ [])) × WritableByOneEntry (told (begun 0 golden) (creates l2 0)) (run golden started (tableAndPage 0 0 5) .reached) 0 0 5
+unfolding certified
+two-steps =
+    mapped (begin-accepted (lent 0 ledger) 0 golden begins-zeros) (rw started-memory zeros-blank) (lawful-digest (contents (memory 0) 5)) 0 0 5 (omega arith)
+    (rw (started-memory, length-memory 0) (omega arith)) (rw (started-memory, length-memory 0) (omega arith)) (λ e. omega arith) refl refl
+    (rw started-memory (signed-by-own-digest (contents (memory 0) 5)))
+
+-- after two steps there is what `Policies.in-turn` asks for
+pub writable-reached : WritableByOneEntry (toldAt golden 0 started (tableAndPage 0 0 5) 2) (storeAt golden started (tableAndPage 0 0 5) 2) 0 0 5
+unfolding history heard told
+writable-reached = let (answers-are, one-entry) = two-steps in rw answers-are one-entry
+
+-- and six steps in a row are accepted
+pub six-accepted : run golden started (tableAndPage 0 0 5 ++ thereAndBack 0 0 5) .answers ≡ (0 ∷ 0 ∷ 0 ∷ 0 ∷ 0 ∷ 0 ∷ [])
+six-accepted =
+    let back = policies golden (lent 0 ledger) 0 begins-zeros (tableAndPage 0 0 5) .in-turn (lawful-digest (contents (memory 0) 5)) 0 0 5 2 writable-reached in
+    answers-append golden started (tableAndPage 0 0 5) (thereAndBack 0 0 5) ∙ rw (two-steps .0, back) refl

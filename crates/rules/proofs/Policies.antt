@@ -1,0 +1,65 @@
+-- The policies hold of every list: each state that it reaches keeps demand 3's invariant, and the invariant gives each of them.
+use mathlib.Core.Bool.{false}
+use mathlib.Core.List.{List, [], _∷_}
+use mathlib.Core.Logic.{_≢_}
+use mathlib.Core.Path.{_≡_, refl, subst}
+use Prim.Native.Nat.{ℕ}
+use lib.ListN.{take}
+use Rattle.rules.specs.Refusals.{Refusal, answerOf}
+use Rattle.rules.specs.Store.{Store}
+use Rattle.rules.specs.Signature.{misfitImage}
+use Rattle.rules.specs.Free.{freeRefusals, freeAfter, freeOutcome}
+use Rattle.rules.specs.Unmap.{unmapRefusals, unmapAfter, unmapOutcome}
+use Rattle.rules.specs.Guest.{Access, fetches, guestOutcome}
+use Rattle.rules.specs.Steps.{Step, frees, unmaps, accesses, obey, run, Told, begun}
+use Rattle.rules.specs.Demand3.{storeAt}
+use Rattle.rules.specs.Policies.{AltersWritableOnly, KeepsWorkingSet, KeepsWalks, thereAndBack, AtGuestSteps, MeetsSoundEntries, Policies, Policies-hold}
+use Rattle.rules.proofs.State.{Running}
+use Rattle.rules.proofs.Starting.{begin-accepted}
+use Rattle.rules.proofs.Demand3.{history-golden, reached, moment}
+use Rattle.rules.proofs.Passing.{settle-answer, switch-accepted}
+use Rattle.rules.proofs.Accessible.{exclusive, integrity, guest-alters, guest-keeps-working-set, guest-keeps-walks, guest-fetches-code}
+use Rattle.rules.proofs.Removals.{free-sound, unmap-sound}
+use Rattle.rules.proofs.InTurn.{in-turn}
+
+module _ (golden : List ℕ) {B : ℕ} {s : Store} (r : Running (begun B golden) s) (steps : List Step) where
+  -- what holds of the guest's steps from running states
+  at-guest-steps : (P : Told → Store → Store → Type 0) → ((h : Told) (now : Store) → Running h now → (a : Access) (addr : ℕ) → P h now (guestOutcome a now addr .after)) → AtGuestSteps golden B s steps P
+  unfolding obey
+  at-guest-steps P holds i a addr e =
+      let m = moment golden refl r steps i (accesses a addr) e in
+      rw (m .told-is, m .store-is, m .after-is) (holds (m .told) (m .store) (m .runs) a addr)
+
+  -- what a step never answers in a running state
+  meets : (step : Step) (refusals : Store → List Refusal) → ((now : Store) → obey golden now step .answer ≡ answerOf (refusals now))
+      → ((h : Told) (now : Store) → Running h now → (answerOf (refusals now) ≢ 8) × (answerOf (refusals now) ≢ 10)) → MeetsSoundEntries golden B s steps step
+  meets step refusals is never i k e given =
+      let m = moment golden refl r steps i step e in
+      let answer-is : k ≡ answerOf (refusals (m .store)) = cc (m .answer-is, given, is (m .store)) in
+      rw answer-is (never (m .told) (m .store) (m .runs))
+
+  upheld : Policies golden B s steps
+  unfolding obey freeOutcome unmapOutcome
+  upheld =
+      record {
+        exclusive = λ i. exclusive (reached golden refl r steps i);
+        integrity = λ i. integrity (reached golden refl r steps i);
+        switches = λ i. switch-accepted (reached golden refl r steps i);
+        alters-writable = at-guest-steps AltersWritableOnly (λ h now r. guest-alters r);
+        keeps-working-set = at-guest-steps KeepsWorkingSet (λ h now r. guest-keeps-working-set r);
+        keeps-walks = at-guest-steps KeepsWalks (λ h now r. guest-keeps-walks r);
+        fetched = λ i addr byte e accepted given.
+            let m = moment golden refl r steps i (accesses fetches addr) e in
+            let zero-is : obey golden (m .store) (accesses fetches addr) .answer ≡ 0 = cc (m .answer-is, accepted) in
+            let byte-is : byte ≡ obey golden (m .store) (accesses fetches addr) .byte = cc (m .byte-is, given) in
+            rw (m .told-is, m .store-is, byte-is) (guest-fetches-code (m .runs) addr zero-is);
+        free-sound = λ v p. meets (frees v p) (λ now. freeRefusals v now p) (λ now. settle-answer _ now (freeAfter v now p) 0) (λ h now r. free-sound r v p);
+        unmap-sound = λ f p j. meets (unmaps f p j) (λ now. unmapRefusals f now p j) (λ now. settle-answer _ now (unmapAfter f now p j) 0) (λ h now r. unmap-sound r f p j);
+        in-turn = λ image p j t i w.
+            subst (λ (g : List ℕ). misfitImage g ≡ false → run g (storeAt golden s steps i) (thereAndBack p j t) .answers ≡ (0 ∷ 0 ∷ 0 ∷ 0 ∷ []))
+            (history-golden (begun B golden) (take i steps) (run golden s steps .answers)) (λ lawful. in-turn (reached golden refl r steps i) lawful w) image;
+      }
+
+-- every list that starts from what an accepted begin leaves
+pub policies : Policies-hold
+policies golden lent B accepted steps = upheld golden (begin-accepted lent B golden accepted) steps
