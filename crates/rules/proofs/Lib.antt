@@ -28,3 +28,4 @@ pub mod SmallStores
 pub mod Witnesses
 pub mod TableWitnesses
 pub mod Blank
+pub mod Edges

@@ -1,0 +1,86 @@
+/*
+ * What a hypervisor does where the monitor refuses a mapping that would make a block writable and executable (source document 002, "emulation
+ * layer"): it maps with less, notes the right that it held back, and when the guest then faults on it, downgrades the mapping in the way and
+ * tries again. One page, mapped by two entries of one L2 block, goes from writable to executable and back.
+ */
+#include "pagemon.h"
+#include "signature.h"
+
+#include <stdio.h>
+#include <string.h>
+
+enum { BLOCKS = 16, TABLE = 0, PAGES = 4, CODE = 8, WRITER = 5, RUNNER = 6 };
+
+static uint8_t memory[BLOCKS * PAGEMON_BLOCK_BYTES], ledger[PAGEMON_LEDGER_BYTES(BLOCKS)], golden[PAGEMON_DIGEST_BYTES];
+
+#define REGION memory, sizeof memory, ledger, sizeof ledger
+
+/* A mapping as the guest asked for it, and the rights that it has now. */
+struct mapping {
+    uint32_t index, asked, held;
+};
+
+static uint32_t map(struct mapping *m, uint32_t rights)
+{
+    uint32_t answer = pagemon_map_l2(REGION, golden, sizeof golden, PAGES, m->index, CODE, rights);
+    if (answer == PAGEMON_ACCEPTED)
+        m->held = rights;
+    return answer;
+}
+
+/* The rights that a mapping gets: those asked for, or, where write and execute clash, only read for the time being. */
+static uint32_t map_or_less(struct mapping *m)
+{
+    uint32_t answer = map(m, m->asked);
+    return answer == PAGEMON_CLASH ? map(m, PAGEMON_READ) : answer;
+}
+
+/* Gives a mapping other rights. The TLB is to be cleared of it before the guest runs on. */
+static uint32_t remap(struct mapping *m, uint32_t rights)
+{
+    uint32_t answer = pagemon_unmap_l2(REGION, PAGES, m->index);
+    if (answer != PAGEMON_ACCEPTED)
+        return answer;
+    m->held = 0;
+    return map(m, rights);
+}
+
+/* The guest faulted on a right that was held back: the mapping in the way is downgraded, and the right given. */
+static uint32_t resume(struct mapping *wanted, struct mapping *in_the_way)
+{
+    uint32_t answer = remap(in_the_way, PAGEMON_READ);
+    return answer == PAGEMON_ACCEPTED ? remap(wanted, wanted->asked) : answer;
+}
+
+static int failures = 0;
+
+static void expect(const char *what, uint32_t answer, uint32_t expected)
+{
+    printf("%-58s %u\n", what, (unsigned)answer);
+    failures += answer != expected;
+}
+
+int main(void)
+{
+    struct mapping writer = {WRITER, PAGEMON_READ | PAGEMON_WRITE, 0}, runner = {RUNNER, PAGEMON_READ | PAGEMON_EXECUTE, 0};
+    uint8_t byte = 0;
+
+    memset(memory + CODE * PAGEMON_BLOCK_BYTES, 0x1E, PAGEMON_BLOCK_BYTES); /* the code that is known to be good */
+    signature_sha256(memory + CODE * PAGEMON_BLOCK_BYTES, PAGEMON_BLOCK_BYTES, golden);
+    expect("begin", pagemon_begin(REGION, 0), 0);
+    expect("create the L1 table", pagemon_create_l1(REGION, golden, sizeof golden, TABLE), 0);
+    expect("create the L2 block", pagemon_create_l2(REGION, golden, sizeof golden, PAGES), 0);
+    expect("link", pagemon_link(REGION, TABLE, 0, PAGES, 0), 0);
+    expect("switch", pagemon_switch(REGION, TABLE), 0);
+
+    expect("map to write", map_or_less(&writer), PAGEMON_ACCEPTED);
+    expect("map to execute: held back, only read", map_or_less(&runner), PAGEMON_ACCEPTED);
+    expect("  the guest fetches: a prefetch abort", pagemon_fetch(REGION, 0x6000, &byte), PAGEMON_RIGHT_LACKING);
+    expect("resume execute: the writer is downgraded", resume(&runner, &writer), PAGEMON_ACCEPTED);
+    expect("  the guest fetches", pagemon_fetch(REGION, 0x6000, &byte), PAGEMON_ACCEPTED);
+    expect("  the guest writes: a data abort", pagemon_write(REGION, 0x5000, 0), PAGEMON_RIGHT_LACKING);
+    expect("resume write: the runner is downgraded", resume(&writer, &runner), PAGEMON_ACCEPTED);
+    expect("  the guest writes", pagemon_write(REGION, 0x5000, 0), PAGEMON_ACCEPTED);
+    expect("resume execute: the block is no longer signed", resume(&runner, &writer), PAGEMON_UNSIGNED);
+    return failures != 0;
+}
