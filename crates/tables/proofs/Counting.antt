@@ -22,9 +22,10 @@ use Rattle.rules.proofs.Changes.{counter-at, end, length-recounted, head-recoun
 use Rattle.ledger.specs.Counters.{Changeable, Countable}
 use Rattle.ledger.proofs.Records.{ledger-ext}
 use Rattle.ledger.proofs.Counting.{recounted-more}
-use Rattle.tables.specs.Counting.{beyond, counterBeyond, entryBeyond, leastOf, mostOf, Room, Roomy, Storable, AllStorable, opposite, Counted}
-use Rattle.tables.specs.Lent.{Fits, Placed}
-use Rattle.tables.proofs.Places.{both-ways, or-right, and-both, some-block-hit, some-block-found, gives-at, in-region}
+use Rattle.validation.specs.Bounds.{beyond, counterBeyond, entryBeyond}
+use Rattle.tables.specs.Counting.{leastOf, mostOf, Room, Roomy, Storable, AllStorable, opposite, Counted}
+use Rattle.validation.specs.Lent.{Fits, Placed}
+use Rattle.validation.proofs.Places.{both-ways, or-right, and-both, some-block-hit, some-block-found, gives-at, in-region}
 
 -- One counter, changed by k from old
 

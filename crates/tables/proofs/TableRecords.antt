@@ -10,7 +10,7 @@ use Rattle.rules.specs.Store.{Store, base, recordWord, putRecordWord, typePlace
 use Rattle.rules.specs.Tables.{tableBlocks}
 use Rattle.rules.specs.Create.{someCount}
 use Rattle.ledger.proofs.Blocks.{someBlock-records}
-use Rattle.tables.proofs.Places.{any-or}
+use Rattle.validation.proofs.Places.{any-or}
 
 -- the scans of create's refusal 6
 module _ (v : Level) (s : Store) (p : ℕ) (low : base s ≤ p) where

@@ -3,8 +3,6 @@
 use crate::own::first_record;
 use crate::own::first_word;
 use crate::own::put_types;
-use crate::scan::some_above_limit;
-use crate::target::entry_beyond;
 use entries::decode::entry_at;
 use entries::entry::Entry;
 use entries::entry::Level;
@@ -15,6 +13,8 @@ use ledger::layout::TYPE_D;
 use ledger::table::table_blocks;
 use ledger::table::table_entries;
 use ledger::table::table_type;
+use validation::scan::some_above_limit;
+use validation::target::entry_beyond;
 ghost use mathlib.Core.Bool.{cond, not};
 ghost use mathlib.Core.Path.{_≡_};
 ghost use Rattle.entries.specs.Meaning.{levelOf, meaning};
@@ -22,9 +22,11 @@ ghost use Rattle.ledger.specs.Counters.{changeOf};
 ghost use Rattle.rules.specs.General.{recounted, someOverrun};
 ghost use Rattle.rules.specs.Store.{lent};
 ghost use Rattle.rules.specs.Tables.{entries, tableEntry};
-ghost use Rattle.tables.specs.Counting.{AllStorable, Counted, entryBeyond, leastOf, mostOf, opposite as oppositeOf, turned, typeAfter};
-ghost use Rattle.tables.specs.Entries.{AllPlaced, EntriesPlaced, HoldsWords, entryFrom};
-ghost use Rattle.tables.specs.Lent.{Fits, Placed, TableInside};
+ghost use Rattle.validation.specs.Bounds.{entryBeyond};
+ghost use Rattle.validation.specs.Entries.{AllPlaced, HoldsWords, entryFrom};
+ghost use Rattle.validation.specs.Lent.{Fits, Placed};
+ghost use Rattle.tables.specs.Counting.{AllStorable, Counted, leastOf, mostOf, opposite as oppositeOf, turned, typeAfter};
+ghost use Rattle.tables.specs.Lent.{EntriesPlaced, TableInside};
 
 const LARGEST_WORD: u32 = 0xFFFF_FFFF;
 

@@ -1,12 +1,8 @@
 // Create L1, create L2: "Types and counters change, memory doesn't".
-use crate::clash::some_clash;
 use crate::count::turn_table;
 use crate::own::first_word;
 use crate::own::is_counted;
 use crate::own::table_refusal;
-use crate::scan::some_misplaced;
-use crate::scan::some_unaccepted;
-use crate::unsigned::some_first_unsigned;
 use entries::entry::Level;
 use ledger::counters::Change;
 use ledger::layout::TYPE_D;
@@ -21,13 +17,18 @@ use ledger::refusals::WRONG_ENTRY;
 use ledger::region::is_misfit_image;
 use ledger::region::is_misfit_stored;
 use ledger::table::table_entries;
+use validation::clash::some_clash;
+use validation::scan::some_misplaced;
+use validation::scan::some_unaccepted;
+use validation::unsigned::some_first_unsigned;
 ghost use mathlib.Core.Path.{_≡_};
 ghost use Rattle.entries.specs.Meaning.{levelOf};
 ghost use Rattle.rules.specs.Create.{createOutcome};
 ghost use Rattle.rules.specs.Refusals.{answerOf};
 ghost use Rattle.rules.specs.Store.{lent};
+ghost use Rattle.validation.specs.Lent.{Fits};
 ghost use Rattle.tables.specs.Judged.{createJudged, newEntries};
-ghost use Rattle.tables.specs.Lent.{Fits, TableInside};
+ghost use Rattle.tables.specs.Lent.{TableInside};
 
 // Refusals 8, 10, 11 and 12: each over all entries before the next.
 fn entries_refusal(level: Level, memory: &[u8], ledger: &[u8], golden: &[u8], block: u32) -> u32

@@ -3,8 +3,6 @@ use crate::count::turn_table;
 use crate::own::first_word;
 use crate::own::is_in_use;
 use crate::own::table_refusal;
-use crate::scan::some_astray;
-use crate::scan::some_unaccepted;
 use entries::entry::Level;
 use ledger::counters::Change;
 use ledger::layout::base;
@@ -18,13 +16,16 @@ use ledger::region::blocks;
 use ledger::region::is_misfit_stored;
 use ledger::table::table_entries;
 use ledger::table::table_type;
+use validation::scan::some_astray;
+use validation::scan::some_unaccepted;
 ghost use mathlib.Core.Path.{_≡_};
 ghost use Rattle.entries.specs.Meaning.{levelOf};
 ghost use Rattle.rules.specs.Free.{freeOutcome};
 ghost use Rattle.rules.specs.Refusals.{answerOf};
 ghost use Rattle.rules.specs.Store.{lent};
+ghost use Rattle.validation.specs.Lent.{Fits};
 ghost use Rattle.tables.specs.Judged.{freeJudged, oldEntries};
-ghost use Rattle.tables.specs.Lent.{Fits, TableInside};
+ghost use Rattle.tables.specs.Lent.{TableInside};
 
 // "8 and 10 for an unaccepted form or a place outside"
 fn entries_refusal(level: Level, memory: &[u8], ledger: &[u8], block: u32) -> u32

@@ -25,8 +25,9 @@ ghost use Rattle.rules.specs.Free.{inUse};
 ghost use Rattle.rules.specs.Store.{blockWords, lent, retype};
 ghost use Rattle.rules.specs.Store.{base as storedBase};
 ghost use Rattle.rules.specs.Refusals.{answerOf};
+ghost use Rattle.validation.specs.Lent.{Fits};
 ghost use Rattle.tables.specs.Judged.{tableRefusals};
-ghost use Rattle.tables.specs.Lent.{Fits, TableInside};
+ghost use Rattle.tables.specs.Lent.{TableInside};
 
 // The place of the table's first record.
 pub fn first_record(level: Level, memory: &[u8], ledger: &[u8], block: u32) -> usize

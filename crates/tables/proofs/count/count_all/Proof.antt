@@ -11,7 +11,7 @@ use Rattle.rules.specs.Store.{lent}
 use Rattle.words.proofs.Words.{Bytes}
 use Rattle.rules.proofs.Changes.{length-recounted}
 use Rattle.rules.proofs.State.{fits}
-use Rattle.tables.specs.Entries.{entryFrom}
+use Rattle.validation.specs.Entries.{entryFrom}
 use Rattle.tables.proofs.Counting.{storable-fewer, step-fits, step-countable, step-counted}
 use Rattle.tables.proofs.count.count_all.Statement.{statement}
 use Rattle.tables.proofs.count.count_all.Tie as tie

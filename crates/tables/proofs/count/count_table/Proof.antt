@@ -7,7 +7,7 @@ use Rattle.entries.specs.Meaning.{levelOf}
 use Rattle.ledger.specs.Counters.{changeOf}
 use Rattle.ledger.proofs.Judge.{told}
 use Rattle.rules.specs.Store.{lent}
-use Rattle.tables.specs.Entries.{entryFrom}
+use Rattle.validation.specs.Entries.{entryFrom}
 use Rattle.tables.proofs.Counting.{counted-fits, counted-placed, counted-back, counted-undone, counted-stuck, counted-end}
 use borrow.Author.Needs.{needs}
 use Rattle.tables.proofs.count.count_table.Statement.{statement}

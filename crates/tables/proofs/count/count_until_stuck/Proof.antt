@@ -14,7 +14,7 @@ use Rattle.rules.specs.Store.{lent}
 use Rattle.rules.proofs.Changes.{length-recounted}
 use Rattle.rules.proofs.State.{fits}
 use Rattle.tables.specs.Counting.{Roomy}
-use Rattle.tables.specs.Entries.{entryFrom}
+use Rattle.validation.specs.Entries.{entryFrom}
 use Rattle.tables.proofs.Counting.{roomy-none, roomy-more, roomy-storable, step-fits, step-countable, step-counted}
 use Rattle.tables.proofs.count.count_until_stuck.Statement.{statement}
 use Rattle.tables.proofs.count.count_until_stuck.Tie as tie

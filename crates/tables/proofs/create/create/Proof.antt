@@ -7,7 +7,7 @@ use Rattle.rules.specs.Create.{createOutcome}
 use Rattle.rules.specs.Store.{Outcome, lent}
 use Rattle.rules.proofs.Refusals.{passed, now, rest}
 use Rattle.ledger.proofs.Judge.{decides, none, here, past, refused, accepted, told, settle-answer, settle-refused, settle-accepted}
-use Rattle.tables.proofs.Conflicts.{all-placed}
+use Rattle.validation.proofs.Conflicts.{all-placed}
 use borrow.Author.Needs.{needs}
 use Rattle.tables.proofs.create.create.Statement.{statement}
 use Rattle.tables.proofs.create.create.Tie as tie

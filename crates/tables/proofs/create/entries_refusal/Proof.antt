@@ -7,7 +7,7 @@ use Rattle.rules.specs.Store.{blockWords, lent, base}
 use Rattle.rules.specs.Tables.{entries, tableEntry}
 use Rattle.rules.proofs.State.{fits, within}
 use Rattle.ledger.proofs.Judge.{decides, none, here, past, told}
-use Rattle.tables.proofs.Conflicts.{clash-is, unsigned-is, all-placed, one-size}
+use Rattle.validation.proofs.Conflicts.{clash-is, unsigned-is, all-placed, one-size}
 use borrow.Author.Needs.{needs}
 use Rattle.tables.proofs.create.entries_refusal.Statement.{statement}
 use Rattle.tables.proofs.create.entries_refusal.Tie as tie
