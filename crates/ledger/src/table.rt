@@ -22,12 +22,17 @@ ghost use Rattle.rules.specs.Store.{lent, misfit};
 ghost use Rattle.rules.specs.Store.{base as storedBase};
 ghost use Rattle.rules.specs.Tables.{code, entries, tableBlocks};
 
+// The blocks of a table of each level.
+pub const L1_BLOCKS: u32 = 4;
+
+pub const L2_BLOCKS: u32 = 1;
+
 pub fn table_blocks(level: Level) -> u32
     ensures { λ r. ⌜ (r ≡ tableBlocks (levelOf level)) × (0 < r) × (r ≤ 4) ⌝ }
 {
     match level {
-        Level::L1 => 4,
-        Level::L2 => 1,
+        Level::L1 => L1_BLOCKS,
+        Level::L2 => L2_BLOCKS,
     }
 }
 

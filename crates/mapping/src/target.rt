@@ -8,7 +8,6 @@ use ledger::counters::Change;
 use ledger::counters::Counter;
 use ledger::counters::entry_overruns;
 use ledger::counters::grants;
-use ledger::layout::BLOCK_BYTES;
 use ledger::layout::BLOCK_WORDS;
 use ledger::layout::EXECUTABLE;
 use ledger::layout::TYPE;
@@ -26,17 +25,14 @@ use ledger::rights::Right;
 use ledger::rights::allows;
 use ledger::scan::some_above_zero;
 use ledger::scan::some_differs;
-use signature::golden::is_signed_at;
-ghost use mathlib.Core.Bool.{false, not, _&&_};
+use ledger::scan::some_unsigned;
+ghost use mathlib.Core.Bool.{false, _&&_};
 ghost use mathlib.Core.Path.{_≡_};
-ghost use Prim.Native.Nat.{_+_, _-_, _*_, _/_, _^_, _<_, _≤_};
-ghost use lib.ListN.{length};
-ghost use Rattle.words.specs.Bounded.{above, any, neqb};
-ghost use Rattle.signature.specs.Signed.{signed};
+ghost use Prim.Native.Nat.{_+_, _-_, _/_, _^_, _<_};
+ghost use Rattle.words.specs.Bounded.{above, neqb};
 ghost use Rattle.entries.specs.Meaning.{meaning};
 ghost use Rattle.rules.specs.Refusals.{answerOf};
-ghost use Rattle.rules.specs.Store.{base as storedBase, blockBytes, executable, lent, misfit, recordWord, someBlock, typeOf};
-ghost use Rattle.rules.specs.Signature.{contents};
+ghost use Rattle.rules.specs.Store.{base as storedBase, executable, lent, misfit, recordWord, someBlock, typeOf};
 ghost use Rattle.rules.specs.Tables.{allows, gives, typeD, write};
 ghost use Rattle.rules.specs.General.{holder};
 ghost use Rattle.rules.specs.Map.{clashingTarget, unfitTarget, unlawfulRights, unsignedTarget};
@@ -133,19 +129,6 @@ fn is_clashing_target(form: Form, memory: &[u8], ledger: &[u8], target: u32, rig
     }
     if allows(rights, Right::Execute) {
         return some_counted(memory, ledger, WRITABLE, target, m);
-    }
-    false
-}
-
-// Some of the m blocks of the memory from b on, counted from its first, is not signed.
-fn some_unsigned(memory: &[u8], golden: &[u8], b: usize, m: usize) -> bool
-    requires { ⌜ blockBytes * (b + m) ≤ length (now memory) ⌝ }
-    ensures { λ r. ⌜ r ≡ any m (λ i. not (signed (contents (now (memory .entry)) (b + i)) (now (golden .entry)))) ⌝ }
-{
-    for i in 0..m {
-        if !is_signed_at(memory, BLOCK_BYTES * (b + i), golden) {
-            return true;
-        }
     }
     false
 }

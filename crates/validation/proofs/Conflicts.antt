@@ -8,16 +8,17 @@ use native.Mathlib.Omega.{arith}
 use lib.Dec.{eqb, ltb}
 use borrow.Author.Tests.{lt-ltb, ltb-true, eq-eqb, eqb-true}
 use Rattle.words.specs.Bounded.{above, any}
-use Rattle.words.proofs.Bounded.{any-hit, any-found, or-cases, and-true, below-or-above, any-none, any-avoids, or-false-left}
+use Rattle.words.proofs.Bounded.{both-ways, or-left, or-right, and-both, any-first, any-hit, any-found, or-cases, and-true, below-or-above, any-none, any-avoids, or-false-left}
 use Rattle.entries.specs.Entries.{Entry, Level, first, size, entryAt}
 use Rattle.rules.specs.Store.{Store, blocks, base, Counter, writable, executable, counter, someBlock, someRegionBlock}
 use Rattle.rules.specs.Signature.{certified}
 use Rattle.rules.specs.Tables.{grants, gives, gain, astray}
 use Rattle.rules.specs.Create.{misplaced, clash, clashes, unsigned}
-use Rattle.rules.proofs.Gains.{gives-within, gain-hit, gain-found}
+use Rattle.rules.proofs.Gains.{gives-within, gives-at, grants-size, gain-hit, gain-found}
+use Rattle.rules.proofs.State.{some-block-hit, some-block-found}
 use Rattle.validation.specs.Conflicts.{meets, meetsCount, overlap, meetsEntry, executedBefore, someUnsigned, firstUnsigned}
 use Rattle.validation.specs.Targets.{unfitLink, unfitWrite}
-use Rattle.validation.proofs.Places.{executes-size, both-ways, or-left, or-right, and-both, some-block-hit, some-block-found, any-first, grants-size, gives-at, in-region}
+use Rattle.validation.proofs.Places.{executes-size, in-region}
 
 -- two places have a block in common exactly if they overlap
 pub overlap-at : (d e : Entry) (b : ℕ) → first d ≤ b → b < first d + size d → first e ≤ b → b < first e + size e → overlap d e ≡ true

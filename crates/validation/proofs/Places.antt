@@ -1,93 +1,23 @@
 -- Laws of entries' places: a block is given something exactly if it lies in the place of an entry that grants it.
-use mathlib.Core.Bool.{Bool, true, false, cond, _&&_, _||_, false≢true, or-true}
+use mathlib.Core.Bool.{Bool, true, false, cond, _&&_, _||_, false≢true}
 use mathlib.Core.List.{List}
 use mathlib.Core.Logic.{⊎-elim}
-use mathlib.Core.Path.{_≡_, refl, sym, _∙_, ap}
-use Prim.Native.Nat.{ℕ, zero, suc, _+_, _-_, _*_, _<_, _≤_}
+use mathlib.Core.Path.{_≡_, refl, _∙_, ap}
+use Prim.Native.Nat.{ℕ, _+_, _*_, _<_, _≤_}
 use native.Mathlib.Omega.{arith}
 use borrow.Author.Tests.{lt-ltb, le-leb, ltb-true, leb-true}
-use Rattle.words.specs.Bounded.{neqb, any}
+use Rattle.words.specs.Bounded.{neqb}
 use lib.Dec.{eqb, leb, ltb}
 use Rattle.words.specs.Words.{bits, word}
 use Rattle.entries.specs.Rights.{rightsOf}
-use Rattle.words.proofs.Bounded.{and-true, or-cases, below-or-above, any-hit, any-found}
-use Rattle.entries.specs.Entries.{Entry, fault, unaccepted, link, section, page, Level, l1, l2, sectionAP, sectionXN, pageAP, pageXN, isLinkForm, isSectionForm, isPageForm, l1Entry, l2Entry, entryAt, isLink, rights, first, size, covers}
-use Rattle.rules.specs.Store.{Store, typeOf, Counter, writable, executable, linked, outside, someBlock}
-use Rattle.rules.specs.Tables.{typeD, tableBlocks, allows, grants, gives, astray}
-use Rattle.rules.proofs.State.{within}
+use Rattle.words.proofs.Bounded.{both-ways, and-true, below-or-above, any-or}
+use Rattle.entries.specs.Entries.{Entry, fault, unaccepted, link, section, page, Level, l1, l2, sectionAP, sectionXN, pageAP, pageXN, isLinkForm, isSectionForm, isPageForm, l1Entry, l2Entry, entryAt, rights, first, size}
+use Rattle.rules.specs.Store.{Store, typeOf, Counter, writable, executable, outside, someBlock}
+use Rattle.rules.specs.Tables.{typeD, tableBlocks, allows, grants, astray}
+use Rattle.rules.proofs.Gains.{grants-size}
+use Rattle.rules.proofs.State.{within, some-block-hit, some-block-found}
 use Rattle.validation.specs.Conflicts.{meeting}
 use Rattle.validation.specs.Targets.{unfitWrite}
-
--- two tests that imply each other are the same
-pub both-ways : (a b : Bool) → (a ≡ true → b ≡ true) → (b ≡ true → a ≡ true) → a ≡ b
-both-ways true b f g = sym (f refl)
-both-ways false true f g = g refl
-both-ways false false f g = refl
-
-pub or-left : (a b : Bool) → a ≡ true → (a || b) ≡ true
-or-left a b e = rw e refl
-
-pub or-right : (a b : Bool) → b ≡ true → (a || b) ≡ true
-or-right a b e = rw e (or-true a)
-
-pub and-both : (a b : Bool) → a ≡ true → b ≡ true → (a && b) ≡ true
-and-both a b e f = rw (e, f) refl
-
-module _ (p m : ℕ) (q : ℕ → Bool) where
-  pub some-block-hit : (b : ℕ) → p ≤ b → b < p + m → q b ≡ true → someBlock p m q ≡ true
-  unfolding someBlock
-  some-block-hit b lo hi e =
-      let i : p + (b - p) ≡ b = omega arith in
-      any-hit (λ k. q (p + k)) m (b - p) (omega arith) (rw i e)
-
-  pub some-block-found : someBlock p m q ≡ true → (b : ℕ) × (p ≤ b) × (b < p + m) × (q b ≡ true)
-  unfolding someBlock
-  some-block-found e = let (k, l, t) = any-found (λ k. q (p + k)) m e in (p + k, omega arith, omega arith, t)
-
-pub any-or : (n : ℕ) (p q : ℕ → Bool) → any n (λ i. p i || q i) ≡ (any n p || any n q)
-any-or n p q = both-ways (any n (λ i. p i || q i)) (any n p || any n q) there back where
-  there : any n (λ i. p i || q i) ≡ true → (any n p || any n q) ≡ true
-  there h =
-      let (i, l, t) = any-found (λ i. p i || q i) n h in
-      ⊎-elim (λ u. or-left (any n p) (any n q) (any-hit p n i l u)) (λ u. or-right (any n p) (any n q) (any-hit q n i l u)) (or-cases (p i) (q i) t)
-
-  back : (any n p || any n q) ≡ true → any n (λ i. p i || q i) ≡ true
-  back h =
-      ⊎-elim (λ u. let (i, l, t) = any-found p n u in any-hit (λ i. p i || q i) n i l (or-left (p i) (q i) t))
-      (λ u. let (i, l, t) = any-found q n u in any-hit (λ i. p i || q i) n i l (or-right (p i) (q i) t))
-      (or-cases (any n p) (any n q) h)
-
--- the first number that has p
-pub any-first : (p : ℕ → Bool) (n : ℕ) → any n p ≡ true → (i : ℕ) × (i < n) × (p i ≡ true) × (any i p ≡ false)
-unfolding any
-any-first p zero e = absurd (false≢true e)
-any-first p (suc n) e = go (any n p) refl (any-first p n) where
-  go : (t : Bool) → any n p ≡ t → (any n p ≡ true → (i : ℕ) × (i < n) × (p i ≡ true) × (any i p ≡ false)) → (i : ℕ) × (i < suc n) × (p i ≡ true) × (any i p ≡ false)
-  go true f earlier = let (i, l, t, none) = earlier f in (i, omega arith, t, none)
-  go false f earlier = (n, omega arith, rw f at e, f)
-
--- what gives something has a place
-pub grants-size : (c : Counter) (e : Entry) → grants c e ≡ true → 0 < size e
-unfolding grants allows rights isLink size
-grants-size writable fault g = absurd (false≢true g)
-grants-size writable unaccepted g = absurd (false≢true g)
-grants-size writable (link p) g = absurd (false≢true g)
-grants-size writable (section b r) g = omega arith
-grants-size writable (page b r) g = omega arith
-grants-size executable fault g = absurd (false≢true g)
-grants-size executable unaccepted g = absurd (false≢true g)
-grants-size executable (link p) g = absurd (false≢true g)
-grants-size executable (section b r) g = omega arith
-grants-size executable (page b r) g = omega arith
-grants-size linked fault g = absurd (false≢true g)
-grants-size linked unaccepted g = absurd (false≢true g)
-grants-size linked (link p) g = omega arith
-grants-size linked (section b r) g = omega arith
-grants-size linked (page b r) g = omega arith
-
-pub gives-at : (c : Counter) (e : Entry) (b : ℕ) → grants c e ≡ true → first e ≤ b → b < first e + size e → gives c e b ≡ true
-unfolding gives covers
-gives-at c e b g lo hi = rw (g, le-leb (first e) b lo, lt-ltb b (first e + size e) hi) refl
 
 -- 10 does not apply to an entry that gives something: its place is in the region
 module _ (B n : ℕ) (c : Counter) (e : Entry) (placed : astray B n e ≡ false) (g : grants c e ≡ true) where

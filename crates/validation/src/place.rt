@@ -4,25 +4,20 @@ use entries::entry::first;
 use entries::entry::size;
 use ledger::counters::Counter;
 use ledger::counters::place;
-use ledger::layout::BLOCK_BYTES;
 use ledger::layout::TYPE;
 use ledger::layout::base;
 use ledger::layout::record_word;
 use ledger::scan::some_above_zero;
 use ledger::scan::some_differs;
-use signature::golden::is_signed_at;
-ghost use mathlib.Core.Bool.{not};
+use ledger::scan::some_unsigned;
 ghost use mathlib.Core.Path.{_≡_};
-ghost use Prim.Native.Nat.{_+_, _-_, _*_, _<_, _≤_};
-ghost use lib.ListN.{length};
+ghost use Prim.Native.Nat.{_+_, _-_, _<_};
 ghost use Rattle.words.specs.Bounded.{above, any, neqb};
 ghost use Rattle.entries.specs.Entries.{first as firstBlock, size as blockCount};
 ghost use Rattle.entries.specs.Meaning.{meaning};
 ghost use Rattle.ledger.specs.Counters.{counterOf};
 ghost use Rattle.ledger.specs.Records.{InLedger};
-ghost use Rattle.rules.specs.Signature.{contents};
-ghost use Rattle.rules.specs.Store.{blockBytes, counter as counterAt, lent, recordWord, someBlock, typeOf};
-ghost use Rattle.signature.specs.Signed.{signed};
+ghost use Rattle.rules.specs.Store.{counter as counterAt, lent, recordWord, someBlock, typeOf};
 ghost use Rattle.validation.specs.Conflicts.{meeting, someUnsigned};
 ghost use Rattle.validation.specs.Bounds.{beyond};
 ghost use Rattle.validation.specs.Lent.{FirstRecord, Fits, Inside};
@@ -96,19 +91,6 @@ pub fn place_beyond(
 {
     let b = first_record(memory, ledger, e);
     some_beyond(ledger, place(counter), b, size(e) as usize, least, most)
-}
-
-// Some of the m blocks of the memory from block b on is unsigned.
-fn some_unsigned(memory: &[u8], golden: &[u8], b: usize, m: usize) -> bool
-    requires { ⌜ blockBytes * (b + m) ≤ length (now memory) ⌝ }
-    ensures { λ r. ⌜ r ≡ any m (λ i. not (signed (contents (now (memory .entry)) (b + i)) (now (golden .entry)))) ⌝ }
-{
-    for i in 0..m {
-        if !is_signed_at(memory, BLOCK_BYTES * (b + i), golden) {
-            return true;
-        }
-    }
-    false
 }
 
 // Some block is unsigned.

@@ -3,8 +3,7 @@ use mathlib.Core.List.{[], _∷_}
 use mathlib.Core.Path.{sym, _∙_}
 use native.Mathlib.Omega.{arith}
 use Rattle.rules.proofs.Refusals.{passed, now}
-use Rattle.ledger.proofs.Judge.{decides, here, past, refused, accepted, told}
-use Rattle.tables.proofs.Chains.{answered}
+use Rattle.ledger.proofs.Judge.{decides, here, past, refused, accepted, told, judged}
 use borrow.Author.Needs.{needs}
 use Rattle.tables.proofs.create.create_refusal.Statement.{statement}
 use Rattle.tables.proofs.create.create_refusal.Tie as tie
@@ -31,7 +30,7 @@ entries-refusal-requires : tie.Need-entries-refusal-requires
 entries-refusal-requires c κs = (told (c .before .before .before .before .before .before .before .is-misfit-stored .ensures) (c .before .before .before .before .before .before .if1 .left), now (passed _ (omega arith) (sym (c .before .before .before .table-refusal .ensures) ∙ c .before .before .if3 .left)))
 
 returns-5 : tie.Need-returns-5
-returns-5 c = decides (past (told (c .before .before .before .before .before .before .before .before .is-misfit-stored .ensures) (c .before .before .before .before .before .before .before .if1 .left)) (past (told (c .before .before .before .before .before .before .is-misfit-image .ensures) (c .before .before .before .before .before .if2 .left)) (accepted (passed _ (omega arith) (sym (c .before .before .before .before .table-refusal .ensures) ∙ c .before .before .before .if3 .left)) (past (told (c .before .before .is-counted .ensures) (c .before .if4 .left)) (answered _ (c .entries-refusal .ensures))))))
+returns-5 c = decides (past (told (c .before .before .before .before .before .before .before .before .is-misfit-stored .ensures) (c .before .before .before .before .before .before .before .if1 .left)) (past (told (c .before .before .before .before .before .before .is-misfit-image .ensures) (c .before .before .before .before .before .if2 .left)) (accepted (passed _ (omega arith) (sym (c .before .before .before .before .table-refusal .ensures) ∙ c .before .before .before .if3 .left)) (past (told (c .before .before .is-counted .ensures) (c .before .if4 .left)) (judged _ (c .entries-refusal .ensures))))))
 
 pub create-refusal-spec : {M : Type 1} → statement M
 create-refusal-spec =

@@ -3,8 +3,7 @@ use mathlib.Core.List.{[], _∷_}
 use mathlib.Core.Path.{sym, _∙_}
 use native.Mathlib.Omega.{arith}
 use Rattle.rules.proofs.Refusals.{passed, now}
-use Rattle.ledger.proofs.Judge.{decides, here, past, refused, accepted, told}
-use Rattle.tables.proofs.Chains.{answered}
+use Rattle.ledger.proofs.Judge.{decides, here, past, refused, accepted, told, judged}
 use borrow.Author.Needs.{needs}
 use Rattle.tables.proofs.free.free_refusal.Statement.{statement}
 use Rattle.tables.proofs.free.free_refusal.Tie as tie
@@ -28,7 +27,7 @@ entries-refusal-requires : tie.Need-entries-refusal-requires
 entries-refusal-requires c κs = (told (c .before .before .before .before .before .before .is-misfit-stored .ensures) (c .before .before .before .before .before .if1 .left), now (passed _ (omega arith) (sym (rw (c .before .before .before .before .table-type .ensures) at (c .before .before .before .table-refusal .ensures)) ∙ c .before .before .if2 .left)))
 
 returns-4 : tie.Need-returns-4
-returns-4 c = decides (past (told (c .before .before .before .before .before .before .before .is-misfit-stored .ensures) (c .before .before .before .before .before .before .if1 .left)) (accepted (passed _ (omega arith) (sym (rw (c .before .before .before .before .before .table-type .ensures) at (c .before .before .before .before .table-refusal .ensures)) ∙ c .before .before .before .if2 .left)) (past (told (c .before .before .is-in-use .ensures) (c .before .if3 .left)) (answered _ (c .entries-refusal .ensures)))))
+returns-4 c = decides (past (told (c .before .before .before .before .before .before .before .is-misfit-stored .ensures) (c .before .before .before .before .before .before .if1 .left)) (accepted (passed _ (omega arith) (sym (rw (c .before .before .before .before .before .table-type .ensures) at (c .before .before .before .before .table-refusal .ensures)) ∙ c .before .before .before .if2 .left)) (past (told (c .before .before .is-in-use .ensures) (c .before .if3 .left)) (judged _ (c .entries-refusal .ensures)))))
 
 pub free-refusal-spec : {M : Type 1} → statement M
 free-refusal-spec =
