@@ -23,7 +23,8 @@ use Rattle.ledger.proofs.Records.{recordWord-bound, bytes-recount, ledger-ext}
 use Rattle.ledger.proofs.Counting.{recounted-more}
 use Rattle.validation.specs.Bounds.{beyond, counterBeyond, entryBeyond}
 use Rattle.tables.specs.Counting.{leastOf, mostOf, Room, Roomy, Storable, AllStorable, opposite, Counted}
-use Rattle.validation.specs.Lent.{Fits, Placed}
+use Rattle.ledger.specs.Lent.{Fits}
+use Rattle.validation.specs.Lent.{Placed}
 use Rattle.validation.proofs.Places.{in-region}
 
 -- One counter, changed by k from old

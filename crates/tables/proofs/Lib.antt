@@ -1,3 +1,4 @@
 pub mod Clearing
 pub mod Counting
 pub mod TableRecords
+pub mod Fronts

@@ -1,16 +1,10 @@
--- What the tests of a call that have passed say of the table at block p.
+-- What the tests of a call that have passed say of the entries of the table at block p.
 use mathlib.Core.Bool.{false}
-use mathlib.Core.List.{List}
 use mathlib.Core.Path.{_≡_}
 use Prim.Native.Nat.{ℕ, _<_}
 use Rattle.entries.specs.Entries.{Level}
-use Rattle.rules.specs.General.{tableOutside}
-use Rattle.rules.specs.Store.{Store, lent, blocks, base}
+use Rattle.rules.specs.Store.{Store, blocks, base}
 use Rattle.rules.specs.Tables.{entries, tableEntry, astray}
-
--- 2 does not apply
-abbrev pub TableInside : Level → List ℕ → List ℕ → ℕ → Type 0
-TableInside v memory ledger p = tableOutside v (lent memory ledger) p ≡ false
 
 -- 10 does not apply to the places of its entries
 abbrev pub EntriesPlaced : Level → Store → ℕ → Type 0

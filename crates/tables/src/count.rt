@@ -24,9 +24,10 @@ ghost use Rattle.rules.specs.Store.{lent};
 ghost use Rattle.rules.specs.Tables.{entries, tableEntry};
 ghost use Rattle.validation.specs.Bounds.{entryBeyond};
 ghost use Rattle.validation.specs.Entries.{AllPlaced, HoldsWords, entryFrom};
-ghost use Rattle.validation.specs.Lent.{Fits, Placed};
+ghost use Rattle.ledger.specs.Lent.{Fits, TableInside};
+ghost use Rattle.validation.specs.Lent.{Placed};
 ghost use Rattle.tables.specs.Counting.{AllStorable, Counted, leastOf, mostOf, opposite as oppositeOf, turned, typeAfter};
-ghost use Rattle.tables.specs.Lent.{EntriesPlaced, TableInside};
+ghost use Rattle.tables.specs.Lent.{EntriesPlaced};
 
 const LARGEST_WORD: u32 = 0xFFFF_FFFF;
 

@@ -9,14 +9,15 @@ use lib.Dec.{eqb, ltb}
 use borrow.Author.Tests.{lt-ltb, ltb-true, eq-eqb, eqb-true}
 use Rattle.words.specs.Bounded.{above, any}
 use Rattle.words.proofs.Bounded.{both-ways, or-left, or-right, and-both, any-first, any-hit, any-found, or-cases, and-true, below-or-above, any-none, any-avoids, or-false-left}
-use Rattle.entries.specs.Entries.{Entry, Level, first, size, entryAt}
-use Rattle.rules.specs.Store.{Store, blocks, base, Counter, writable, executable, counter, someBlock, someRegionBlock}
+use Rattle.entries.specs.Entries.{Entry, Level, first, size}
+use Rattle.rules.specs.Store.{Store, lent, blocks, base, Counter, writable, executable, counter, someBlock, someRegionBlock}
 use Rattle.rules.specs.Signature.{certified}
 use Rattle.rules.specs.Tables.{grants, gives, gain, astray}
 use Rattle.rules.specs.Create.{misplaced, clash, clashes, unsigned}
 use Rattle.rules.proofs.Gains.{gives-within, gives-at, grants-size, gain-hit, gain-found}
 use Rattle.rules.proofs.State.{some-block-hit, some-block-found}
 use Rattle.validation.specs.Conflicts.{meets, meetsCount, overlap, meetsEntry, executedBefore, someUnsigned, firstUnsigned}
+use Rattle.validation.specs.Entries.{AllPlaced, entryFrom}
 use Rattle.validation.specs.Targets.{unfitLink, unfitWrite}
 use Rattle.validation.proofs.Places.{executes-size, in-region}
 
@@ -49,6 +50,17 @@ module _ (s : Store) (c d : Counter) (en : Entry) where
       let (grant, some) = and-true (grants c en) (someBlock (first en) (size en) (λ b. above (counter d s b) 0)) h in
       let (b, lo, hi, t) = some-block-found (first en) (size en) (λ b. above (counter d s b) 0) some in
       (b, gives-at c en b grant lo hi, lo, hi, ltb-true 0 (counter d s b) t)
+
+-- where no entry executes, none meets another
+no-executes : (m : ℕ) (e : ℕ → Entry) → any m (λ k. grants executable (e k)) ≡ false → any m (λ i. meetsEntry m e (e i)) ≡ false
+unfolding meetsEntry
+no-executes m e none = any-avoids (λ i. meetsEntry m e (e i)) m (λ i l. rw (inner i) (and-false (grants writable (e i)))) where
+  and-false : (a : Bool) → (a && false) ≡ false
+  and-false true = refl
+  and-false false = refl
+
+  inner : (i : ℕ) → any m (λ k. grants executable (e k) && overlap (e i) (e k)) ≡ false
+  inner i = any-avoids (λ k. grants executable (e k) && overlap (e i) (e k)) m (λ k l. rw (any-none (λ k. grants executable (e k)) m none k l) refl)
 
 module _ (s : Store) (m : ℕ) (e : ℕ → Entry) where
   -- some entry meets a count of the ledger, or another entry
@@ -135,6 +147,16 @@ module _ (s : Store) (m : ℕ) (e : ℕ → Entry) where
     pub clash-is : someRegionBlock s (clashes s m e) ≡ conflict
     clash-is = both-ways (someRegionBlock s (clashes s m e)) conflict (λ h. let (b, lo, hi, t) = some-block-found (base s) (blocks s) (clashes s m e) h in clash-conflict b t) conflict-clash
 
+    -- by the scans, one after the other
+    pub clash-counted : any m (λ i. meetsCount s (e i)) ≡ true → true ≡ someRegionBlock s (clashes s m e)
+    clash-counted t = sym (clash-is ∙ or-left (any m (λ i. meetsCount s (e i))) (any m (λ i. meetsEntry m e (e i))) t)
+
+    pub clash-met : {r : Bool} → any m (λ i. meetsCount s (e i)) ≡ false → r ≡ any m (λ i. meetsEntry m e (e i)) → r ≡ someRegionBlock s (clashes s m e)
+    clash-met f q = rw (clash-is, f) q
+
+    pub clash-none : any m (λ i. meetsCount s (e i)) ≡ false → any m (λ i. grants executable (e i)) ≡ false → false ≡ someRegionBlock s (clashes s m e)
+    clash-none f none = clash-met f (sym (no-executes m e none))
+
     -- "12", entry by entry, each place that is executed looked at once
     pub unsigned-is : (golden : List ℕ) → ((i k : ℕ) → grants executable (e i) ≡ true → grants executable (e k) ≡ true → size (e i) ≡ size (e k))
         → someRegionBlock s (unsigned golden s m e) ≡ any m (firstUnsigned golden s e)
@@ -171,18 +193,7 @@ module _ (s : Store) (m : ℕ) (e : ℕ → Entry) where
           let g = gain-hit m e executable b i l (gives-at executable (e i) b grant lo hi) in
           some-block-hit (base s) (blocks s) (unsigned golden s m e) b (omega arith) (omega arith) (and-both (above (gain m e executable b) 0) (bad b) (lt-ltb 0 (gain m e executable b) g) u)
 
--- What the code of create goes by
-
--- where no entry executes, none meets another
-pub no-executes : (m : ℕ) (e : ℕ → Entry) → any m (λ k. grants executable (e k)) ≡ false → any m (λ i. meetsEntry m e (e i)) ≡ false
-unfolding meetsEntry
-no-executes m e none = any-avoids (λ i. meetsEntry m e (e i)) m (λ i l. rw (inner i) (and-false (grants writable (e i)))) where
-  and-false : (a : Bool) → (a && false) ≡ false
-  and-false true = refl
-  and-false false = refl
-
-  inner : (i : ℕ) → any m (λ k. grants executable (e k) && overlap (e i) (e k)) ≡ false
-  inner i = any-avoids (λ k. grants executable (e k) && overlap (e i) (e k)) m (λ k l. rw (any-none (λ k. grants executable (e k)) m none k l) refl)
+-- What the code goes by
 
 -- 10 does not apply: the entries' places are in the region
 pub all-placed : (v : Level) (s : Store) (p m : ℕ) (e : ℕ → Entry) → any m (λ i. misplaced v s p (e i)) ≡ false → (i : ℕ) → i < m → astray (base s) (blocks s) (e i) ≡ false
@@ -191,7 +202,8 @@ all-placed v s p m e none i l =
     let stray = astray (base s) (blocks s) (e i) in
     or-false-left stray (unfitLink s (e i)) (or-false-left (stray || unfitLink s (e i)) (unfitWrite v s p (e i)) (any-none (λ i. misplaced v s p (e i)) m none i l))
 
--- what executes in one table has places of one size
-pub one-size : (v : Level) (memory : List ℕ) (j i k : ℕ) → grants executable (entryAt v memory (j + i)) ≡ true → grants executable (entryAt v memory (j + k)) ≡ true
-    → size (entryAt v memory (j + i)) ≡ size (entryAt v memory (j + k))
-one-size v memory j i k g h = executes-size v memory (j + i) g ∙ sym (executes-size v memory (j + k) h)
+-- what executes in one table has places of one size, so a scan for the first entries that execute them finds every unsigned target
+pub unsigned-scan : (v : Level) (golden memory ledger : List ℕ) (j m : ℕ) {r : Bool} → AllPlaced v memory ledger j m
+    → r ≡ any m (firstUnsigned golden (lent memory ledger) (entryFrom v memory j)) → r ≡ someRegionBlock (lent memory ledger) (unsigned golden (lent memory ledger) m (entryFrom v memory j))
+unsigned-scan v golden memory ledger j m placed q =
+    q ∙ sym (unsigned-is (lent memory ledger) m (entryFrom v memory j) placed golden (λ i k g h. executes-size v memory (j + i) g ∙ sym (executes-size v memory (j + k) h)))

@@ -1,4 +1,4 @@
--- What the tests of a call that have passed say of its buffers.
+-- What the tests of a call that have passed say of an entry.
 use mathlib.Core.Bool.{false}
 use mathlib.Core.List.{List}
 use mathlib.Core.Path.{_≡_}
@@ -6,12 +6,8 @@ use Prim.Native.Nat.{ℕ, _+_, _-_, _*_, _≤_}
 use lib.ListN.{length}
 use Rattle.entries.specs.Entries.{Entry, first, size}
 use Rattle.ledger.specs.Records.{InLedger}
-use Rattle.rules.specs.Store.{blockBytes, lent, blocks, base, outside, misfit}
+use Rattle.rules.specs.Store.{blockBytes, lent, blocks, base, outside}
 use Rattle.rules.specs.Tables.{astray}
-
--- 1 does not apply
-abbrev pub Fits : List ℕ → List ℕ → Type 0
-Fits memory ledger = misfit (lent memory ledger) (base (lent memory ledger)) ≡ false
 
 -- the entry's place is in the region
 abbrev pub Inside : List ℕ → List ℕ → Entry → Type 0

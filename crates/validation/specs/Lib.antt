@@ -3,3 +3,4 @@ pub mod Entries
 pub mod Targets
 pub mod Conflicts
 pub mod Bounds
+pub mod Judged

@@ -8,15 +8,16 @@ use entries::entry::first;
 use entries::entry::size;
 use ledger::counters::Counter;
 use ledger::counters::grants;
-ghost use mathlib.Core.Bool.{_&&_, _||_};
+ghost use mathlib.Core.Bool.{_&&_};
 ghost use mathlib.Core.Path.{_≡_};
 ghost use Rattle.words.specs.Bounded.{any};
 ghost use Rattle.entries.specs.Meaning.{levelOf, meaning};
-ghost use Rattle.rules.specs.Store.{executable, lent};
+ghost use Rattle.rules.specs.Create.{clashes};
+ghost use Rattle.rules.specs.Store.{executable, lent, someRegionBlock};
 ghost use Rattle.rules.specs.Tables.{grants as grantsAny};
 ghost use Rattle.validation.specs.Conflicts.{meetsCount, meetsEntry, overlap};
 ghost use Rattle.validation.specs.Entries.{AllPlaced, HoldsWords, entryFrom};
-ghost use Rattle.validation.specs.Lent.{Fits};
+ghost use Rattle.ledger.specs.Lent.{Fits};
 
 // Some entry meets a count of the ledger.
 fn some_meets_count(level: Level, memory: &[u8], ledger: &[u8], j: usize, m: usize) -> bool
@@ -92,8 +93,7 @@ fn some_meets_entry(level: Level, memory: &[u8], j: usize, m: usize) -> bool
 // Entries are compared with each other only where one of them executes.
 pub fn some_clash(level: Level, memory: &[u8], ledger: &[u8], j: usize, m: usize) -> bool
     requires { ⌜ Fits (now memory) (now ledger) × HoldsWords (now memory) j m × AllPlaced (levelOf level) (now memory) (now ledger) j m ⌝ }
-    ensures { λ r. ⌜ r ≡ (any m (λ i. meetsCount (lent (now (memory .entry)) (now (ledger .entry))) (entryFrom (levelOf level) (now (memory .entry)) j i))
-        || any m (λ i. meetsEntry m (entryFrom (levelOf level) (now (memory .entry)) j) (entryFrom (levelOf level) (now (memory .entry)) j i))) ⌝ }
+    ensures { λ r. ⌜ r ≡ someRegionBlock (lent (now (memory .entry)) (now (ledger .entry))) (clashes (lent (now (memory .entry)) (now (ledger .entry))) m (entryFrom (levelOf level) (now (memory .entry)) j)) ⌝ }
 {
     if some_meets_count(level, memory, ledger, j, m) {
         return true;

@@ -20,7 +20,8 @@ ghost use Rattle.ledger.specs.Records.{InLedger};
 ghost use Rattle.rules.specs.Store.{counter as counterAt, lent, recordWord, someBlock, typeOf};
 ghost use Rattle.validation.specs.Conflicts.{meeting, someUnsigned};
 ghost use Rattle.validation.specs.Bounds.{beyond};
-ghost use Rattle.validation.specs.Lent.{FirstRecord, Fits, Inside};
+ghost use Rattle.ledger.specs.Lent.{Fits};
+ghost use Rattle.validation.specs.Lent.{FirstRecord, Inside};
 
 // m blocks from p on and n blocks from q on have a block in common.
 pub fn have_common(p: u32, m: u32, q: u32, n: u32) -> bool

@@ -16,7 +16,7 @@ ghost use Rattle.rules.specs.Store.{lent, limit};
 ghost use Rattle.rules.specs.Tables.{astray};
 ghost use Rattle.validation.specs.Bounds.{entryBeyond};
 ghost use Rattle.validation.specs.Entries.{AllPlaced, HoldsWords, entryFrom};
-ghost use Rattle.validation.specs.Lent.{Fits};
+ghost use Rattle.ledger.specs.Lent.{Fits};
 
 // Some entry is not of an accepted form.
 pub fn some_unaccepted(level: Level, memory: &[u8], j: usize, m: usize) -> bool

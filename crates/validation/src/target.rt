@@ -23,7 +23,8 @@ ghost use Rattle.rules.specs.Create.{misplaced};
 ghost use Rattle.rules.specs.Store.{lent};
 ghost use Rattle.validation.specs.Conflicts.{meets as meetsAny, meetsCount};
 ghost use Rattle.validation.specs.Bounds.{counterBeyond, entryBeyond};
-ghost use Rattle.validation.specs.Lent.{Fits, Placed};
+ghost use Rattle.ledger.specs.Lent.{Fits};
+ghost use Rattle.validation.specs.Lent.{Placed};
 ghost use Rattle.validation.specs.Targets.{unfitLink, unfitWrite};
 
 // "a link's block isn't L2"

@@ -10,14 +10,14 @@ ghost use mathlib.Core.Bool.{_&&_};
 ghost use mathlib.Core.Path.{_≡_};
 ghost use Prim.Native.Nat.{_<_};
 ghost use lib.Dec.{eqb};
-ghost use Rattle.words.specs.Bounded.{any};
 ghost use Rattle.entries.specs.Entries.{first as firstBlock};
 ghost use Rattle.entries.specs.Meaning.{levelOf, meaning};
-ghost use Rattle.rules.specs.Store.{executable, lent};
+ghost use Rattle.rules.specs.Create.{unsigned};
+ghost use Rattle.rules.specs.Store.{executable, lent, someRegionBlock};
 ghost use Rattle.rules.specs.Tables.{grants as grantsAny};
 ghost use Rattle.validation.specs.Conflicts.{executedBefore, firstUnsigned};
 ghost use Rattle.validation.specs.Entries.{AllPlaced, HoldsWords, entryFrom};
-ghost use Rattle.validation.specs.Lent.{Fits};
+ghost use Rattle.ledger.specs.Lent.{Fits};
 
 // The entry executes the place that starts at block f.
 fn executes_from(e: Entry, f: u32) -> bool
@@ -66,7 +66,8 @@ fn is_first_unsigned(
     place_unsigned(memory, ledger, golden, e)
 }
 
-pub fn some_first_unsigned(
+// Each place that is executed is looked at once.
+pub fn some_target_unsigned(
     level: Level,
     memory: &[u8],
     ledger: &[u8],
@@ -75,7 +76,7 @@ pub fn some_first_unsigned(
     m: usize,
 ) -> bool
     requires { ⌜ Fits (now memory) (now ledger) × HoldsWords (now memory) j m × AllPlaced (levelOf level) (now memory) (now ledger) j m ⌝ }
-    ensures { λ r. ⌜ r ≡ any m (firstUnsigned (now (golden .entry)) (lent (now (memory .entry)) (now (ledger .entry))) (entryFrom (levelOf level) (now (memory .entry)) j)) ⌝ }
+    ensures { λ r. ⌜ r ≡ someRegionBlock (lent (now (memory .entry)) (now (ledger .entry))) (unsigned (now (golden .entry)) (lent (now (memory .entry)) (now (ledger .entry))) m (entryFrom (levelOf level) (now (memory .entry)) j)) ⌝ }
 {
     for i in 0..m {
         if is_first_unsigned(level, memory, ledger, golden, j, m, i) {

@@ -1,7 +1,6 @@
 -- Where no entry executes, none meets another.
-use mathlib.Core.Path.{sym}
 use Rattle.ledger.proofs.Judge.{told}
-use Rattle.validation.proofs.Conflicts.{no-executes}
+use Rattle.validation.proofs.Conflicts.{clash-counted, clash-met, clash-none}
 use Rattle.validation.proofs.clash.some_clash.Statement.{statement}
 use Rattle.validation.proofs.clash.some_clash.Tie as tie
 
@@ -9,7 +8,7 @@ some-meets-count-requires : tie.Need-some-meets-count-requires
 some-meets-count-requires c κs = c .before .before .pre
 
 returns : tie.Need-returns
-returns c = rw (told (c .before .some-meets-count .ensures) (c .if1 .taken))
+returns c = clash-counted _ _ _ (c .before .before .before .before .pre .2) (told (c .before .some-meets-count .ensures) (c .if1 .taken))
 
 some-executes-requires : tie.Need-some-executes-requires
 some-executes-requires c κs = c .before .before .before .before .pre .1
@@ -18,10 +17,10 @@ some-meets-entry-requires : tie.Need-some-meets-entry-requires
 some-meets-entry-requires c κs = c .before .before .before .before .before .before .pre .1
 
 returns-2 : tie.Need-returns-2
-returns-2 c = rw (told (c .before .before .before .before .some-meets-count .ensures) (c .before .before .before .if1 .left)) (c .some-meets-entry .ensures)
+returns-2 c = clash-met _ _ _ (c .before .before .before .before .before .before .before .pre .2) (told (c .before .before .before .before .some-meets-count .ensures) (c .before .before .before .if1 .left)) (c .some-meets-entry .ensures)
 
 returns-3 : tie.Need-returns-3
-returns-3 c = rw (told (c .before .before .before .some-meets-count .ensures) (c .before .before .if1 .left)) (sym (no-executes _ _ (told (c .before .some-executes .ensures) (c .if2 .left))))
+returns-3 c = clash-none _ _ _ (c .before .before .before .before .before .before .pre .2) (told (c .before .before .before .some-meets-count .ensures) (c .before .before .if1 .left)) (told (c .before .some-executes .ensures) (c .if2 .left))
 
 pub some-clash-spec : {M : Type 1} → statement M
 some-clash-spec =

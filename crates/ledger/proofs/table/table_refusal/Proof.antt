@@ -3,10 +3,10 @@ use mathlib.Core.List.{[], _∷_}
 use mathlib.Core.Path.{sym, _∙_}
 use native.Mathlib.Omega.{arith}
 use Rattle.rules.proofs.Refusals.{passed, now}
 use Rattle.ledger.proofs.Judge.{decides, none, here, past, refused, accepted, told}
 use borrow.Author.Needs.{needs}
-use Rattle.tables.proofs.own.table_refusal.Statement.{statement}
-use Rattle.tables.proofs.own.table_refusal.Tie as tie
+use Rattle.ledger.proofs.table.table_refusal.Statement.{statement}
+use Rattle.ledger.proofs.table.table_refusal.Tie as tie
 
 returns : tie.Need-returns
 returns c = decides (refused _ (_ ∷ []) (c .before .place-refusal .ensures) (c .if1 .taken))

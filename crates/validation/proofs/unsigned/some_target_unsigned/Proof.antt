@@ -7,8 +7,9 @@ use Rattle.entries.specs.Meaning.{levelOf}
 use Rattle.rules.specs.Store.{lent}
 use Rattle.validation.specs.Conflicts.{firstUnsigned}
 use Rattle.validation.specs.Entries.{entryFrom}
-use Rattle.validation.proofs.unsigned.some_first_unsigned.Statement.{statement}
-use Rattle.validation.proofs.unsigned.some_first_unsigned.Tie as tie
+use Rattle.validation.proofs.Conflicts.{unsigned-scan}
+use Rattle.validation.proofs.unsigned.some_target_unsigned.Statement.{statement}
+use Rattle.validation.proofs.unsigned.some_target_unsigned.Tie as tie
 
 abbrev Inv-loop : tie.InvT-loop
 Inv-loop level memory ledger golden j m i₀ i = Scanned (firstUnsigned golden (lent memory ledger) (entryFrom (levelOf level) memory j)) m i
@@ -20,13 +21,13 @@ is-first-unsigned-requires : tie.Need-is-first-unsigned-requires Inv-loop μ-loo
 is-first-unsigned-requires c κs = (c .before .before .before .before .before .pre, omega arith)
 
 returns : tie.Need-returns Inv-loop μ-loop
-returns c = scan-found _ _ (c .before .before .before .loop .i) (omega arith) (told (c .before .is-first-unsigned .ensures) (c .if1 .taken))
+returns c = unsigned-scan _ _ _ _ _ _ (c .before .before .before .before .before .before .before .pre .2) (scan-found _ _ (c .before .before .before .loop .i) (omega arith) (told (c .before .is-first-unsigned .ensures) (c .if1 .taken)))
 
 loop-again : tie.Need-loop-again Inv-loop μ-loop
 loop-again c = scan-next _ _ _ (c .before .before .before .loop .inv) (omega arith) (told (c .before .is-first-unsigned .ensures) (c .if1 .left))
 
-pub some-first-unsigned-spec : {M : Type 1} → statement M
-some-first-unsigned-spec =
+pub some-target-unsigned-spec : {M : Type 1} → statement M
+some-target-unsigned-spec =
     tie.close
     (tie.spec
     Inv-loop
@@ -37,4 +38,4 @@ some-first-unsigned-spec =
     (λ c. omega arith)
     (λ c. omega arith)
     loop-again
-    (λ c. scan-end _ _ _ (c .before .loop .inv) (omega arith)))
+    (λ c. unsigned-scan _ _ _ _ _ _ (c .before .before .before .before .before .pre .2) (scan-end _ _ _ (c .before .loop .inv) (omega arith))))
