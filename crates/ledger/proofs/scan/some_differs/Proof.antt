@@ -22,14 +22,5 @@ loop-again c = scan-next _ _ _ (c .before .before .before .loop .inv) (omega ari
 pub some-differs-spec : {M : Type 1} → statement M
 some-differs-spec =
     tie.close
-    (tie.spec
-    Inv-loop
-    μ-loop
-    (λ c. scan-start _ _)
-    (λ c. omega arith)
-    (λ c κs. omega arith)
-    returns
-    (λ c. omega arith)
-    (λ c. omega arith)
-    loop-again
-    (λ c. scan-end _ _ _ (c .before .loop .inv) (omega arith)))
+    (tie.spec Inv-loop μ-loop (λ c. scan-start _ _) (λ c. omega arith) (λ c κs. omega arith) returns (λ c. omega arith)
+    (λ c. omega arith) loop-again (λ c. scan-end _ _ _ (c .before .loop .inv) (omega arith)))

@@ -65,15 +65,5 @@ returns c =
 pub count-all-spec : {M : Type 1} → statement M
 count-all-spec =
     tie.close
-    (tie.spec
-    Inv-loop
-    μ-loop
-    loop-holds
-    add-entry-at
-    entry-at-requires
-    change-entry-requires
-    (λ c. omega arith)
-    (λ c. omega arith)
-    loop-again
-    same-length
-    returns)
+    (tie.spec Inv-loop μ-loop loop-holds add-entry-at entry-at-requires change-entry-requires (λ c. omega arith)
+    (λ c. omega arith) loop-again same-length returns)

@@ -86,16 +86,6 @@ returns-3 c =
 pub count-table-spec : {M : Type 1} → statement M
 count-table-spec =
     tie.close
-    (tie.spec
-    (λ c κs. search needs)
-    (λ c κs. search needs)
-    count-all-requires
-    (λ c. search needs)
-    returns
-    some-above-limit-requires
-    (λ c κs. search needs)
-    count-all-requires-2
-    (λ c. search needs)
-    returns-2
-    (λ c. search needs)
-    returns-3)
+    (tie.spec (λ c κs. search needs) (λ c κs. search needs) count-all-requires (λ c. search needs) returns
+    some-above-limit-requires (λ c κs. search needs) count-all-requires-2 (λ c. search needs) returns-2
+    (λ c. search needs) returns-3)

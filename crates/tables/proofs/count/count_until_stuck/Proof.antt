@@ -84,18 +84,5 @@ returns-2 c =
 pub count-until-stuck-spec : {M : Type 1} → statement M
 count-until-stuck-spec =
     tie.close
-    (tie.spec
-    Inv-loop
-    μ-loop
-    loop-holds
-    add-entry-at
-    entry-at-requires
-    is-stuck-requires
-    same-length
-    returns
-    change-entry-requires
-    (λ c. omega arith)
-    (λ c. omega arith)
-    loop-again
-    same-length-2
-    returns-2)
+    (tie.spec Inv-loop μ-loop loop-holds add-entry-at entry-at-requires is-stuck-requires same-length returns
+    change-entry-requires (λ c. omega arith) (λ c. omega arith) loop-again same-length-2 returns-2)

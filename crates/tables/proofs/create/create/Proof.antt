@@ -38,12 +38,5 @@ returns-3 c =
 pub create-spec : {M : Type 1} → statement M
 create-spec =
     tie.close
-    (tie.spec
-    (λ c κs. search needs)
-    (λ c. search needs)
-    returns
-    turn-table-requires
-    (λ c. search needs)
-    returns-2
-    (λ c. search needs)
-    returns-3)
+    (tie.spec (λ c κs. search needs) (λ c. search needs) returns turn-table-requires (λ c. search needs) returns-2
+    (λ c. search needs) returns-3)

@@ -45,17 +45,6 @@ returns-5 c =
 pub create-refusal-spec : {M : Type 1} → statement M
 create-refusal-spec =
     tie.close
-    (tie.spec
-    (λ c κs. search needs)
-    returns
-    (λ c κs. search needs)
-    returns-2
-    table-refusal-requires
-    returns-3
-    is-counted-requires
-    returns-4
-    first-word-requires
-    (λ c κs. search needs)
-    (λ c. search needs)
-    new-entries-refusal-requires
-    returns-5)
+    (tie.spec (λ c κs. search needs) returns (λ c κs. search needs) returns-2 table-refusal-requires returns-3
+    is-counted-requires returns-4 first-word-requires (λ c κs. search needs) (λ c. search needs)
+    new-entries-refusal-requires returns-5)

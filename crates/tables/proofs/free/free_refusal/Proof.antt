@@ -42,16 +42,5 @@ returns-4 c =
 pub free-refusal-spec : {M : Type 1} → statement M
 free-refusal-spec =
     tie.close
-    (tie.spec
-    (λ c κs. search needs)
-    returns
-    (λ c κs. search needs)
-    table-refusal-requires
-    returns-2
-    is-in-use-requires
-    returns-3
-    first-word-requires
-    (λ c κs. search needs)
-    (λ c. search needs)
-    old-entries-refusal-requires
-    returns-4)
+    (tie.spec (λ c κs. search needs) returns (λ c κs. search needs) table-refusal-requires returns-2 is-in-use-requires
+    returns-3 first-word-requires (λ c κs. search needs) (λ c. search needs) old-entries-refusal-requires returns-4)

@@ -25,10 +25,4 @@ returns-3 c = clash-none _ _ _ (c .before .before .before .before .before .befor
 pub some-clash-spec : {M : Type 1} → statement M
 some-clash-spec =
     tie.close
-    (tie.spec
-    some-meets-count-requires
-    returns
-    some-executes-requires
-    some-meets-entry-requires
-    returns-2
-    returns-3)
+    (tie.spec some-meets-count-requires returns some-executes-requires some-meets-entry-requires returns-2 returns-3)

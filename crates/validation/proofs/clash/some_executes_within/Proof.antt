@@ -27,15 +27,5 @@ loop-again c = scan-next _ _ _ (c .before .before .before .before .loop .inv) (o
 pub some-executes-within-spec : {M : Type 1} → statement M
 some-executes-within-spec =
     tie.close
-    (tie.spec
-    Inv-loop
-    μ-loop
-    (λ c. scan-start _ _)
-    (λ c. omega arith)
-    (λ c κs. omega arith)
-    (λ c κs. omega arith)
-    returns
-    (λ c. omega arith)
-    (λ c. omega arith)
-    loop-again
-    (λ c. scan-end _ _ _ (c .before .loop .inv) (omega arith)))
+    (tie.spec Inv-loop μ-loop (λ c. scan-start _ _) (λ c. omega arith) (λ c κs. omega arith) (λ c κs. omega arith)
+    returns (λ c. omega arith) (λ c. omega arith) loop-again (λ c. scan-end _ _ _ (c .before .loop .inv) (omega arith)))

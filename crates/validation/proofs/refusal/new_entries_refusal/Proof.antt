@@ -29,13 +29,5 @@ returns-5 c = decides (past (told (c .before .before .before .before .before .be
 pub new-entries-refusal-spec : {M : Type 1} → statement M
 new-entries-refusal-spec =
     tie.close
-    (tie.spec
-    (λ c κs. search needs)
-    returns
-    (λ c κs. search needs)
-    returns-2
-    some-clash-requires
-    returns-3
-    some-target-unsigned-requires
-    returns-4
-    returns-5)
+    (tie.spec (λ c κs. search needs) returns (λ c κs. search needs) returns-2 some-clash-requires returns-3
+    some-target-unsigned-requires returns-4 returns-5)

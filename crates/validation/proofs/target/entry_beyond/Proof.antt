@@ -21,10 +21,4 @@ returns-3 c = rw (told (c .before .before .before .before .counter-beyond .ensur
 pub entry-beyond-spec : {M : Type 1} → statement M
 entry-beyond-spec =
     tie.close
-    (tie.spec
-    (λ c κs. search needs)
-    returns
-    (λ c κs. search needs)
-    returns-2
-    (λ c κs. search needs)
-    returns-3)
+    (tie.spec (λ c κs. search needs) returns (λ c κs. search needs) returns-2 (λ c κs. search needs) returns-3)

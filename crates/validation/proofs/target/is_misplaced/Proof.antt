@@ -35,12 +35,5 @@ returns-3 c = rw (told (rw (c .before .before .before .before .before .before .b
 pub is-misplaced-spec : {M : Type 1} → statement M
 is-misplaced-spec =
     tie.close
-    (tie.spec
-    base-requires
-    (λ c κs. search needs)
-    is-astray-requires
-    returns
-    is-unfit-link-requires
-    returns-2
-    is-unfit-write-requires
-    returns-3)
+    (tie.spec base-requires (λ c κs. search needs) is-astray-requires returns is-unfit-link-requires returns-2
+    is-unfit-write-requires returns-3)

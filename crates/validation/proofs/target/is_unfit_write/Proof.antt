@@ -25,13 +25,5 @@ returns-3 c = (rw (c .before .before .before .first .ensures, c .before .before 
 pub is-unfit-write-spec : {M : Type 1} → statement M
 is-unfit-write-spec =
     tie.close
-    (tie.spec
-    (λ c κs. search needs)
-    returns
-    place-differs-requires
-    returns-2
-    (λ c κs. search needs)
-    (λ c κs. search needs)
-    (λ c κs. search needs)
-    (λ c κs. search needs)
-    returns-3)
+    (tie.spec (λ c κs. search needs) returns place-differs-requires returns-2 (λ c κs. search needs)
+    (λ c κs. search needs) (λ c κs. search needs) (λ c κs. search needs) returns-3)

@@ -37,13 +37,5 @@ returns-3 c = rw (told (rw (c .before .before .before .before .before .before .e
 pub is-first-unsigned-spec : {M : Type 1} → statement M
 is-first-unsigned-spec =
     tie.close
-    (tie.spec
-    add-entry-at
-    entry-at-requires
-    (λ c κs. search needs)
-    returns
-    (λ c κs. search needs)
-    is-executed-before-requires
-    returns-2
-    place-unsigned-requires
-    returns-3)
+    (tie.spec add-entry-at entry-at-requires (λ c κs. search needs) returns (λ c κs. search needs)
+    is-executed-before-requires returns-2 place-unsigned-requires returns-3)
