@@ -1,15 +1,16 @@
 -- Entries are counted one by one: a counter overruns on the way or at the end exactly if it overruns at once, and what was counted can be taken back.
-use mathlib.Core.Bool.{Bool, true, false, _&&_}
+use mathlib.Core.Bool.{Bool, true, false, not, _&&_}
 use mathlib.Core.List.{List}
 use mathlib.Core.Logic.{⊎-elim}
-use mathlib.Core.Path.{_≡_, refl, _∙_}
+use mathlib.Core.Path.{_≡_, refl, sym, _∙_}
 use Prim.Native.Nat.{ℕ, zero, suc, _+_, _-_, _*_, _^_, _<_, _≤_}
 use native.Mathlib.Nat.{add-zero, add-suc}
 use native.Mathlib.Omega.{arith}
 use lib.ListN.{length}
-use borrow.Author.Tests.{lt-ltb, le-ltb, ltb-true, ltb-false}
+use lib.Dec.{leb}
+use borrow.Author.Tests.{lt-ltb, le-ltb, le-leb, lt-leb, ltb-true, ltb-false, leb-true}
 use Rattle.words.specs.Bounded.{above, any, sum, num}
-use Rattle.words.proofs.Bounded.{both-ways, or-right, and-both, any-hit, any-found, or-cases, or-false-left, or-false-right, and-true, and-false-right, below-or-above}
+use Rattle.words.proofs.Bounded.{both-ways, or-right, and-both, any-hit, any-found, or-cases, or-false-left, or-false-right, and-true, and-true-left, and-false-right, below-or-above}
 use Rattle.words.proofs.Words.{Bytes}
 use Rattle.entries.specs.Entries.{Entry, first, size}
 use Rattle.rules.specs.Store.{head, width, limit, basePlace, Store, lent, blocks, base, recordWord, Counter, counterPlace, someCounter, counter, someBlock, someRegionBlock, misfit}
@@ -19,13 +20,13 @@ use Rattle.rules.proofs.Gains.{gives-within, gives-at, gain-more, gain-hit, gai
 use Rattle.rules.proofs.State.{fits, some-block-hit, some-block-found, no-block-at, no-counter, some-counter-found, some-counter-hit}
 use Rattle.rules.proofs.Changes.{counter-at, end, length-recounted, head-recounted, type-recounted, counter-recounted}
 use Rattle.ledger.specs.Counters.{Changeable, Countable}
+use Rattle.ledger.specs.Lent.{Fits}
 use Rattle.ledger.proofs.Records.{recordWord-bound, bytes-recount, ledger-ext}
 use Rattle.ledger.proofs.Counting.{recounted-more}
 use Rattle.validation.specs.Bounds.{beyond, counterBeyond, entryBeyond}
-use Rattle.tables.specs.Counting.{leastOf, mostOf, Room, Roomy, Storable, AllStorable, opposite, Counted}
-use Rattle.ledger.specs.Lent.{Fits}
 use Rattle.validation.specs.Lent.{Placed}
 use Rattle.validation.proofs.Places.{in-region}
+use Rattle.tables.specs.Counting.{complete, leastOf, mostOf, Room, Roomy, Storable, AllStorable, opposite, Counted}
 
 -- One counter, changed by k from old
 
@@ -281,11 +282,25 @@ module _ (d : Change) (s : Store) (e : ℕ → Entry) (m : ℕ) (fit : misfit s 
   pub counted-back : AllStorable (opposite d) (lent (s .memory) led) r e
   counted-back = rw (done .ledger-is) (back-storable d s e ledger-length bytes r storable)
 
-  pub counted-undone : {led′ : List ℕ} → led′ ≡ recounted (opposite d) (lent (s .memory) led) r e → led′ ≡ s .ledger
-  counted-undone q = rw (done .ledger-is) at q ∙ taken-back d s e ledger-length bytes r storable
+  stuck-overrun : r < m → someOverrun d s m e ≡ true
+  stuck-overrun l = stuck-overruns d s e ledger-length bytes m placed r l (done .roomy) (done .stuck l)
 
-  pub counted-stuck : r < m → someOverrun d s m e ≡ true
-  counted-stuck l = stuck-overruns d s e ledger-length bytes m placed r l (done .roomy) (done .stuck l)
+  end-overrun : r ≡ m → someOverrun d s m e ≡ any m (λ i. entryBeyond 0 limit (lent (s .memory) led) (e i))
+  end-overrun q = rw (done .ledger-is, q) (end-overruns d s e ledger-length bytes m placed (rw q at (done .roomy)))
 
-  pub counted-end : r ≡ m → someOverrun d s m e ≡ any m (λ i. entryBeyond 0 limit (lent (s .memory) led) (e i))
-  counted-end q = rw (done .ledger-is, q) (end-overruns d s e ledger-length bytes m placed (rw q at (done .roomy)))
+  overrun-is : not (someOverrun d s m e) ≡ complete (lent (s .memory) led) m e r
+  overrun-is =
+      let most = done .at-most in
+      ⊎-elim (λ (h : r < m). rw (stuck-overrun h, lt-leb m r h) refl) (λ (h : m ≤ r). rw (end-overrun (omega arith), le-leb m r h) refl) (below-or-above r m)
+
+  -- all are counted, or what was counted is taken back
+  pub counted-all : complete (lent (s .memory) led) m e r ≡ true → (true ≡ not (someOverrun d s m e)) × (led ≡ recounted d s m e)
+  counted-all t =
+      let most = done .at-most in
+      let least = leb-true m r (and-true-left (leb m r) (not (any m (λ i. entryBeyond 0 limit (lent (s .memory) led) (e i)))) t) in
+      let all : r ≡ m = omega arith in
+      (sym (overrun-is ∙ t), rw all at (done .ledger-is))
+
+  pub counted-undone : {led′ : List ℕ} → complete (lent (s .memory) led) m e r ≡ false → led′ ≡ recounted (opposite d) (lent (s .memory) led) r e
+      → (false ≡ not (someOverrun d s m e)) × (led′ ≡ s .ledger)
+  counted-undone t q = (sym (overrun-is ∙ t), rw (done .ledger-is) at q ∙ taken-back d s e ledger-length bytes r storable)

@@ -1,8 +1,10 @@
 -- Refusal 13, looked for while the entries are counted one by one.
-use mathlib.Core.Bool.{true}
+use mathlib.Core.Bool.{Bool, true, not, _&&_}
 use mathlib.Core.List.{List}
 use mathlib.Core.Path.{_≡_}
 use Prim.Native.Nat.{ℕ, _+_, _-_, _^_, _<_, _≤_}
+use lib.Dec.{leb}
+use Rattle.words.specs.Bounded.{any}
 use Rattle.entries.specs.Entries.{Entry, Level}
 use Rattle.rules.specs.Store.{limit, Store, lent, blocks, base, recordWord, Counter, counterPlace, retype}
 use Rattle.rules.specs.Tables.{typeD, code, tableBlocks, entries, tableEntry, gain}
@@ -45,6 +47,10 @@ pub record Counted (d : Change) (s : Store) (m : ℕ) (e : ℕ → Entry) (r : �
   pub ledger-is : ledger ≡ recounted d s r e
   pub roomy : Roomy d s r e
   pub stuck : r < m → entryBeyond (leastOf d) (mostOf d) (lent (s .memory) (recounted d s r e)) (e r) ≡ true
+
+-- all m entries are counted, and no counter by which they count is above the limit
+abbrev pub complete : Store → ℕ → (ℕ → Entry) → ℕ → Bool
+complete s m e r = leb m r && not (any m (λ i. entryBeyond 0 limit s (e i)))
 
 -- the type of a table's blocks when its entries have been added, or removed
 abbrev pub typeAfter : Change → Level → ℕ

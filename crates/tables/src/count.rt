@@ -26,7 +26,7 @@ ghost use Rattle.validation.specs.Bounds.{entryBeyond};
 ghost use Rattle.validation.specs.Entries.{AllPlaced, HoldsWords, entryFrom};
 ghost use Rattle.ledger.specs.Lent.{Fits, TableInside};
 ghost use Rattle.validation.specs.Lent.{Placed};
-ghost use Rattle.tables.specs.Counting.{AllStorable, Counted, leastOf, mostOf, opposite as oppositeOf, turned, typeAfter};
+ghost use Rattle.tables.specs.Counting.{AllStorable, Counted, complete, leastOf, mostOf, opposite as oppositeOf, turned, typeAfter};
 ghost use Rattle.tables.specs.Lent.{EntriesPlaced};
 
 const LARGEST_WORD: u32 = 0xFFFF_FFFF;
@@ -99,6 +99,17 @@ fn count_all(change: Change, level: Level, memory: &[u8], ledger: &mut [u8], j: 
     }
 }
 
+// All m entries are counted, and no counter by which they count is above the limit.
+fn is_complete(level: Level, memory: &[u8], ledger: &[u8], j: usize, m: usize, done: usize) -> bool
+    requires { ⌜ Fits (now memory) (now ledger) × HoldsWords (now memory) j m × AllPlaced (levelOf level) (now memory) (now ledger) j m ⌝ }
+    ensures { λ r. ⌜ r ≡ complete (lent (now (memory .entry)) (now (ledger .entry))) m (entryFrom (levelOf level) (now (memory .entry)) j) done ⌝ }
+{
+    if done < m {
+        return false;
+    }
+    !some_above_limit(level, memory, ledger, j, m)
+}
+
 // Counts the table's m entries, or leaves the ledger if a counter would overrun; true if they are counted.
 pub fn count_table(
     change: Change,
@@ -113,15 +124,11 @@ pub fn count_table(
     ensures { λ r. ⌜ now (ledger .exit) ≡ cond r (recounted (changeOf change) (lent (now (memory .entry)) (now (ledger .entry))) m (entryFrom (levelOf level) (now (memory .entry)) j)) (now (ledger .entry)) ⌝ }
 {
     let done = count_until_stuck(change, level, memory, ledger, j, m);
-    if done < m {
-        count_all(opposite(change), level, memory, ledger, j, done);
-        return false;
+    if is_complete(level, memory, ledger, j, m, done) {
+        return true;
     }
-    if some_above_limit(level, memory, ledger, j, m) {
-        count_all(opposite(change), level, memory, ledger, j, done);
-        return false;
-    }
-    true
+    count_all(opposite(change), level, memory, ledger, j, done);
+    false
 }
 
 // The type that the table's blocks get.
