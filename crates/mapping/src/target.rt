@@ -32,10 +32,11 @@ ghost use Prim.Native.Nat.{_+_, _-_, _/_, _^_, _<_};
 ghost use Rattle.words.specs.Bounded.{above, neqb};
 ghost use Rattle.entries.specs.Meaning.{meaning};
 ghost use Rattle.rules.specs.Refusals.{answerOf};
-ghost use Rattle.rules.specs.Store.{base as storedBase, executable, lent, misfit, recordWord, someBlock, typeOf};
+ghost use Rattle.rules.specs.Store.{base as storedBase, executable, lent, recordWord, someBlock, typeOf};
 ghost use Rattle.rules.specs.Tables.{allows, gives, typeD, write};
 ghost use Rattle.rules.specs.General.{holder};
 ghost use Rattle.rules.specs.Map.{clashingTarget, unfitTarget, unlawfulRights, unsignedTarget};
+ghost use Rattle.ledger.specs.Lent.{Fits};
 ghost use Rattle.mapping.specs.Forms.{formOf};
 ghost use Rattle.mapping.specs.Pieces.{mapTargetRefusals};
 ghost use Rattle.mapping.specs.Slots.{InRegion};
@@ -93,7 +94,7 @@ fn is_unfit_target(
     target: u32,
     rights: u32,
 ) -> bool
-    requires { ⌜ (misfit (lent (now memory) (now ledger)) (storedBase (lent (now memory) (now ledger))) ≡ false) × (holder block index < 2 ^ 32) ⌝ }
+    requires { ⌜ Fits (now memory) (now ledger) × (holder block index < 2 ^ 32) ⌝ }
     ensures { λ r. ⌜ r ≡ unfitTarget (formOf form) (lent (now (memory .entry)) (now (ledger .entry))) block index target rights ⌝ }
 {
     let m = covered(form);
@@ -163,7 +164,7 @@ pub fn target_refusal(
     target: u32,
     rights: u32,
 ) -> u32
-    requires { ⌜ (misfit (lent (now memory) (now ledger)) (storedBase (lent (now memory) (now ledger))) ≡ false) × (holder block index < 2 ^ 32) ⌝ }
+    requires { ⌜ Fits (now memory) (now ledger) × (holder block index < 2 ^ 32) ⌝ }
     ensures { λ r. ⌜ r ≡ answerOf (mapTargetRefusals (formOf form) (now (golden .entry)) (lent (now (memory .entry)) (now (ledger .entry))) block index target rights) ⌝ }
 {
     if is_unfit_target(form, memory, ledger, block, index, target, rights) {

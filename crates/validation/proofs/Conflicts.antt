@@ -13,12 +13,11 @@ use Rattle.entries.specs.Entries.{Entry, Level, first, size}
 use Rattle.rules.specs.Store.{Store, lent, blocks, base, Counter, writable, executable, counter, someBlock, someRegionBlock}
 use Rattle.rules.specs.Signature.{certified}
 use Rattle.rules.specs.Tables.{grants, gives, gain, astray}
-use Rattle.rules.specs.Create.{misplaced, clash, clashes, unsigned}
+use Rattle.rules.specs.Create.{unfitLink, unfitWrite, misplaced, clash, clashes, unsigned}
 use Rattle.rules.proofs.Gains.{gives-within, gives-at, grants-size, gain-hit, gain-found}
 use Rattle.rules.proofs.State.{some-block-hit, some-block-found}
 use Rattle.validation.specs.Conflicts.{meets, meetsCount, overlap, meetsEntry, executedBefore, someUnsigned, firstUnsigned}
 use Rattle.validation.specs.Entries.{AllPlaced, entryFrom}
-use Rattle.validation.specs.Targets.{unfitLink, unfitWrite}
 use Rattle.validation.proofs.Places.{executes-size, in-region}
 
 -- two places have a block in common exactly if they overlap
@@ -197,7 +196,7 @@ module _ (s : Store) (m : ℕ) (e : ℕ → Entry) where
 
 -- 10 does not apply: the entries' places are in the region
 pub all-placed : (v : Level) (s : Store) (p m : ℕ) (e : ℕ → Entry) → any m (λ i. misplaced v s p (e i)) ≡ false → (i : ℕ) → i < m → astray (base s) (blocks s) (e i) ≡ false
-unfolding misplaced unfitLink unfitWrite
+unfolding misplaced
 all-placed v s p m e none i l =
     let stray = astray (base s) (blocks s) (e i) in
     or-false-left stray (unfitLink s (e i)) (or-false-left (stray || unfitLink s (e i)) (unfitWrite v s p (e i)) (any-none (λ i. misplaced v s p (e i)) m none i l))

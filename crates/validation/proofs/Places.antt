@@ -14,10 +14,10 @@ use Rattle.words.proofs.Bounded.{both-ways, and-true, below-or-above, any-or}
 use Rattle.entries.specs.Entries.{Entry, fault, unaccepted, link, section, page, Level, l1, l2, sectionAP, sectionXN, pageAP, pageXN, isLinkForm, isSectionForm, isPageForm, l1Entry, l2Entry, entryAt, rights, first, size}
 use Rattle.rules.specs.Store.{Store, typeOf, Counter, writable, executable, outside, someBlock}
 use Rattle.rules.specs.Tables.{typeD, tableBlocks, allows, grants, astray}
+use Rattle.rules.specs.Create.{unfitWrite}
 use Rattle.rules.proofs.Gains.{grants-size}
 use Rattle.rules.proofs.State.{within, some-block-hit, some-block-found}
 use Rattle.validation.specs.Conflicts.{meeting}
-use Rattle.validation.specs.Targets.{unfitWrite}
 
 -- 10 does not apply to an entry that gives something: its place is in the region
 module _ (B n : ℕ) (c : Counter) (e : Entry) (placed : astray B n e ≡ false) (g : grants c e ≡ true) where

@@ -19,13 +19,12 @@ use ledger::table::table_blocks;
 ghost use mathlib.Core.Path.{_≡_};
 ghost use Rattle.entries.specs.Meaning.{levelOf, meaning};
 ghost use Rattle.ledger.specs.Counters.{counterOf};
-ghost use Rattle.rules.specs.Create.{misplaced};
+ghost use Rattle.rules.specs.Create.{misplaced, unfitLink, unfitWrite};
 ghost use Rattle.rules.specs.Store.{lent};
 ghost use Rattle.validation.specs.Conflicts.{meets as meetsAny, meetsCount};
 ghost use Rattle.validation.specs.Bounds.{counterBeyond, entryBeyond};
 ghost use Rattle.ledger.specs.Lent.{Fits};
 ghost use Rattle.validation.specs.Lent.{Placed};
-ghost use Rattle.validation.specs.Targets.{unfitLink, unfitWrite};
 
 // "a link's block isn't L2"
 fn is_unfit_link(memory: &[u8], ledger: &[u8], e: Entry) -> bool

@@ -2,7 +2,7 @@
 use Rattle.ledger.proofs.Judge.{told}
 use Rattle.rules.specs.Store.{linked}
 use Rattle.rules.specs.Tables.{grants}
-use Rattle.validation.specs.Targets.{unfitLink}
+use Rattle.rules.specs.Create.{unfitLink}
 use Rattle.validation.proofs.Places.{granted-inside}
 use borrow.Author.Needs.{needs}
 use Rattle.validation.proofs.target.is_unfit_link.Statement.{statement}

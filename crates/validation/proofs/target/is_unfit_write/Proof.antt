@@ -2,7 +2,7 @@
 use mathlib.Core.Path.{refl, sym, _∙_}
 use Rattle.ledger.proofs.Judge.{told}
 use borrow.Author.Tests.{not-true, not-false}
-use Rattle.validation.specs.Targets.{unfitWrite}
+use Rattle.rules.specs.Create.{unfitWrite}
 use Rattle.validation.proofs.Places.{granted-inside, unfit-write-is}
 use borrow.Author.Needs.{needs}
 use Rattle.validation.proofs.target.is_unfit_write.Statement.{statement}
