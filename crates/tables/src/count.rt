@@ -23,7 +23,7 @@ ghost use Rattle.rules.specs.General.{recounted, someOverrun};
 ghost use Rattle.rules.specs.Store.{lent};
 ghost use Rattle.rules.specs.Tables.{entries, tableEntry};
 ghost use Rattle.validation.specs.Bounds.{entryBeyond};
-ghost use Rattle.validation.specs.Entries.{AllPlaced, HoldsWords, entryFrom};
+ghost use Rattle.validation.specs.Entries.{TablePlaced, entryFrom};
 ghost use Rattle.ledger.specs.Lent.{Fits, TableInside};
 ghost use Rattle.validation.specs.Lent.{Placed};
 ghost use Rattle.tables.specs.Counting.{AllStorable, Counted, complete, leastOf, mostOf, opposite as oppositeOf, turned, typeAfter};
@@ -75,7 +75,7 @@ fn count_until_stuck(
     j: usize,
     m: usize,
 ) -> usize
-    requires { ⌜ Fits (now memory) (now ledger) × HoldsWords (now memory) j m × AllPlaced (levelOf level) (now memory) (now ledger) j m ⌝ }
+    requires { ⌜ TablePlaced (levelOf level) (now memory) (now ledger) j m ⌝ }
     ensures { λ r. ⌜ Counted (changeOf change) (lent (now (memory .entry)) (now (ledger .entry))) m (entryFrom (levelOf level) (now (memory .entry)) j) r (now (ledger .exit)) ⌝ }
 {
     for i in 0..m {
@@ -90,7 +90,7 @@ fn count_until_stuck(
 
 // Counts m entries.
 fn count_all(change: Change, level: Level, memory: &[u8], ledger: &mut [u8], j: usize, m: usize)
-    requires { ⌜ Fits (now memory) (now ledger) × HoldsWords (now memory) j m × AllPlaced (levelOf level) (now memory) (now ledger) j m ⌝ }
+    requires { ⌜ TablePlaced (levelOf level) (now memory) (now ledger) j m ⌝ }
     requires { ⌜ AllStorable (changeOf change) (lent (now memory) (now ledger)) m (entryFrom (levelOf level) (now memory) j) ⌝ }
     ensures { λ r. ⌜ now (ledger .exit) ≡ recounted (changeOf change) (lent (now (memory .entry)) (now (ledger .entry))) m (entryFrom (levelOf level) (now (memory .entry)) j) ⌝ }
 {
@@ -101,7 +101,7 @@ fn count_all(change: Change, level: Level, memory: &[u8], ledger: &mut [u8], j: 
 
 // All m entries are counted, and no counter by which they count is above the limit.
 fn is_complete(level: Level, memory: &[u8], ledger: &[u8], j: usize, m: usize, done: usize) -> bool
-    requires { ⌜ Fits (now memory) (now ledger) × HoldsWords (now memory) j m × AllPlaced (levelOf level) (now memory) (now ledger) j m ⌝ }
+    requires { ⌜ TablePlaced (levelOf level) (now memory) (now ledger) j m ⌝ }
     ensures { λ r. ⌜ r ≡ complete (lent (now (memory .entry)) (now (ledger .entry))) m (entryFrom (levelOf level) (now (memory .entry)) j) done ⌝ }
 {
     if done < m {
@@ -119,7 +119,7 @@ pub fn count_table(
     j: usize,
     m: usize,
 ) -> bool
-    requires { ⌜ Fits (now memory) (now ledger) × HoldsWords (now memory) j m × AllPlaced (levelOf level) (now memory) (now ledger) j m ⌝ }
+    requires { ⌜ TablePlaced (levelOf level) (now memory) (now ledger) j m ⌝ }
     ensures { λ r. ⌜ r ≡ not (someOverrun (changeOf change) (lent (now (memory .entry)) (now (ledger .entry))) m (entryFrom (levelOf level) (now (memory .entry)) j)) ⌝ }
     ensures { λ r. ⌜ now (ledger .exit) ≡ cond r (recounted (changeOf change) (lent (now (memory .entry)) (now (ledger .entry))) m (entryFrom (levelOf level) (now (memory .entry)) j)) (now (ledger .entry)) ⌝ }
 {

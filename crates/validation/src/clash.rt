@@ -16,12 +16,11 @@ ghost use Rattle.rules.specs.Create.{clashes};
 ghost use Rattle.rules.specs.Store.{executable, lent, someRegionBlock};
 ghost use Rattle.rules.specs.Tables.{grants as grantsAny};
 ghost use Rattle.validation.specs.Conflicts.{meetsCount, meetsEntry, overlap};
-ghost use Rattle.validation.specs.Entries.{AllPlaced, HoldsWords, entryFrom};
-ghost use Rattle.ledger.specs.Lent.{Fits};
+ghost use Rattle.validation.specs.Entries.{HoldsWords, TablePlaced, entryFrom};
 
 // Some entry meets a count of the ledger.
 fn some_meets_count(level: Level, memory: &[u8], ledger: &[u8], j: usize, m: usize) -> bool
-    requires { ⌜ Fits (now memory) (now ledger) × HoldsWords (now memory) j m × AllPlaced (levelOf level) (now memory) (now ledger) j m ⌝ }
+    requires { ⌜ TablePlaced (levelOf level) (now memory) (now ledger) j m ⌝ }
     ensures { λ r. ⌜ r ≡ any m (λ i. meetsCount (lent (now (memory .entry)) (now (ledger .entry))) (entryFrom (levelOf level) (now (memory .entry)) j i)) ⌝ }
 {
     for i in 0..m {
@@ -92,7 +91,7 @@ fn some_meets_entry(level: Level, memory: &[u8], j: usize, m: usize) -> bool
 
 // Entries are compared with each other only where one of them executes.
 pub fn some_clash(level: Level, memory: &[u8], ledger: &[u8], j: usize, m: usize) -> bool
-    requires { ⌜ Fits (now memory) (now ledger) × HoldsWords (now memory) j m × AllPlaced (levelOf level) (now memory) (now ledger) j m ⌝ }
+    requires { ⌜ TablePlaced (levelOf level) (now memory) (now ledger) j m ⌝ }
     ensures { λ r. ⌜ r ≡ someRegionBlock (lent (now (memory .entry)) (now (ledger .entry))) (clashes (lent (now (memory .entry)) (now (ledger .entry))) m (entryFrom (levelOf level) (now (memory .entry)) j)) ⌝ }
 {
     if some_meets_count(level, memory, ledger, j, m) {

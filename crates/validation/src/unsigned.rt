@@ -16,8 +16,7 @@ ghost use Rattle.rules.specs.Create.{unsigned};
 ghost use Rattle.rules.specs.Store.{executable, lent, someRegionBlock};
 ghost use Rattle.rules.specs.Tables.{grants as grantsAny};
 ghost use Rattle.validation.specs.Conflicts.{executedBefore, firstUnsigned};
-ghost use Rattle.validation.specs.Entries.{AllPlaced, HoldsWords, entryFrom};
-ghost use Rattle.ledger.specs.Lent.{Fits};
+ghost use Rattle.validation.specs.Entries.{HoldsWords, TablePlaced, entryFrom};
 
 // The entry executes the place that starts at block f.
 fn executes_from(e: Entry, f: u32) -> bool
@@ -52,7 +51,7 @@ fn is_first_unsigned(
     m: usize,
     i: usize,
 ) -> bool
-    requires { ⌜ Fits (now memory) (now ledger) × HoldsWords (now memory) j m × AllPlaced (levelOf level) (now memory) (now ledger) j m ⌝ }
+    requires { ⌜ TablePlaced (levelOf level) (now memory) (now ledger) j m ⌝ }
     requires { ⌜ i < m ⌝ }
     ensures { λ r. ⌜ r ≡ firstUnsigned (now (golden .entry)) (lent (now (memory .entry)) (now (ledger .entry))) (entryFrom (levelOf level) (now (memory .entry)) j) i ⌝ }
 {
@@ -75,7 +74,7 @@ pub fn some_target_unsigned(
     j: usize,
     m: usize,
 ) -> bool
-    requires { ⌜ Fits (now memory) (now ledger) × HoldsWords (now memory) j m × AllPlaced (levelOf level) (now memory) (now ledger) j m ⌝ }
+    requires { ⌜ TablePlaced (levelOf level) (now memory) (now ledger) j m ⌝ }
     ensures { λ r. ⌜ r ≡ someRegionBlock (lent (now (memory .entry)) (now (ledger .entry))) (unsigned (now (golden .entry)) (lent (now (memory .entry)) (now (ledger .entry))) m (entryFrom (levelOf level) (now (memory .entry)) j)) ⌝ }
 {
     for i in 0..m {
