@@ -14,6 +14,7 @@ use ledger::refusals::RIGHT_LACKING;
 use ledger::region::blocks;
 use ledger::region::is_misfit_stored;
 use ledger::region::is_outside;
+use ledger::table::L1_BLOCKS;
 ghost use mathlib.Core.Bool.{_||_};
 ghost use mathlib.Core.Path.{_≡_};
 ghost use Prim.Native.Nat.{_+_, _≤_};
@@ -24,9 +25,6 @@ ghost use Rattle.rules.specs.Store.{lent, outside, physicalBlocks};
 ghost use Rattle.rules.specs.Tables.{allows, tableBlocks};
 ghost use Rattle.guest.specs.Meaning.{accessOf, answerIn, arrived, byteIn, judged, memoryIn, walkOf};
 ghost use Rattle.guest.specs.Needs.{InMemory, Sound};
-
-// The blocks of an L1 table.
-const TABLE_BLOCKS: u32 = 4;
 
 pub enum Access {
     Read,
@@ -56,10 +54,10 @@ fn is_no_table(first: u32, n: usize, table: u32) -> bool
     requires { ⌜ first + n ≤ physicalBlocks ⌝ }
     ensures { λ r. ⌜ r ≡ (outside first n table (tableBlocks l1) || misaligned table (tableBlocks l1)) ⌝ }
 {
-    if is_outside(first, n, table, TABLE_BLOCKS) {
+    if is_outside(first, n, table, L1_BLOCKS) {
         return true;
     }
-    table % TABLE_BLOCKS != 0
+    table % L1_BLOCKS != 0
 }
 
 // "at the end 23 if the right is lacking"

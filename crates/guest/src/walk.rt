@@ -6,6 +6,7 @@ use entries::entry::Entry;
 use entries::entry::Level;
 use entries::entry::TABLES_OF_A_BLOCK;
 use ledger::layout::BLOCK_BYTES;
+use ledger::layout::BLOCK_WORDS;
 use ledger::refusals::ACCEPTED;
 use ledger::refusals::BROKEN_WALK;
 use ledger::refusals::FAULT_ENTRY;
@@ -19,8 +20,6 @@ ghost use Rattle.rules.specs.Tables.{tableBlocks};
 ghost use Rattle.rules.specs.Guest.{endsAt, follow, passes, walk};
 ghost use Rattle.guest.specs.Meaning.{walkOf};
 ghost use Rattle.guest.specs.Needs.{NumberAt, Region};
-
-const BLOCK_WORDS: usize = 1024;
 
 const L2_WORDS: usize = 256;
 
@@ -110,7 +109,7 @@ pub fn walk_tables(memory: &[u8], first: u32, n: usize, table: u32, address: u32
     let b = (table - first) as usize;
     let e = l1_entry_at(
         memory,
-        BLOCK_WORDS * b + words::bits(address, 20, 12) as usize,
+        BLOCK_WORDS as usize * b + words::bits(address, 20, 12) as usize,
     );
     from_l1(e, memory, first, n, address)
 }

@@ -1,7 +1,7 @@
 -- Laws of counters: changing word by word what one entry gives is recounting the whole ledger with that entry.
-use mathlib.Core.Bool.{Bool, true, false, cond, _||_, false≢true, or-true}
+use mathlib.Core.Bool.{Bool, true, false, cond, _||_, false≢true}
 use mathlib.Core.List.{List}
-use mathlib.Core.Logic.{_≢_, _⊎_, ⊎-elim}
+use mathlib.Core.Logic.{_≢_, ⊎-elim}
 use mathlib.Core.Path.{_≡_, refl, sym, _∙_, ap}
 use Prim.Native.Nat.{ℕ, zero, suc, _+_, _-_, _*_, _^_, _<_, _≤_}
 use native.Mathlib.Nat.{add-zero}
@@ -12,18 +12,18 @@ use lib.ListN.{length}
 use borrow.Author.Tests.{lt-ltb, le-ltb, le-leb, lt-leb, ltb-true, ltb-false}
 use Rattle.words.specs.Bounded.{above, any, sum}
 use Rattle.words.specs.Words.{word}
-use Rattle.words.proofs.Bounded.{below-or-above, last-or-below, window-or-outside, false-unless, and-true-left, and-true-right, or-cases, or-false-left, any-none, any-hit, any-found, and-false-right}
-use Rattle.words.proofs.Words.{Bytes, word-bound, bytes-putWord}
-use Rattle.entries.specs.Entries.{Entry, fault, unaccepted, link, section, page, isLink, rights, first, size, covers}
-use Rattle.rules.specs.Store.{head, width, basePlace, limit, Store, blocks, base, recordWord, putRecordWord, typePlace, Counter, writable, executable, linked, counterPlace, someCounter, counter, someBlock, recount, outside, misfit, lent}
-use Rattle.rules.specs.Tables.{allows, grants, gives, gain, astray}
+use Rattle.words.proofs.Bounded.{both-ways, below-or-above, last-or-below, window-or-outside, false-unless, and-true-left, and-true-right, or-false-left, any-none, any-hit, any-found, and-false-right}
+use Rattle.words.proofs.Words.{Bytes, bytes-putWord}
+use Rattle.entries.specs.Entries.{Entry, first, size}
+use Rattle.rules.specs.Store.{head, width, basePlace, limit, Store, blocks, base, recordWord, putRecordWord, typePlace, Counter, writable, executable, linked, counterPlace, someCounter, counter, someBlock, outside, misfit, lent}
+use Rattle.rules.specs.Tables.{grants, gives, gain, astray}
 use Rattle.rules.specs.General.{Change, added, removed, endValue, endsBelow, overruns, someOverrun, recounted}
-use Rattle.rules.proofs.Gains.{gives-within, gain-most, gain-hit, gain-none, gain-found}
+use Rattle.rules.proofs.Gains.{gives-within, gives-at, grants-size, gain-most, gain-hit, gain-none, gain-found}
 use Rattle.rules.proofs.Ledger.{InRecord, counter-in-record, counter-not-type, length-putRecordWord, head-putRecordWord, recordWord-put-same, recordWord-put-other}
-use Rattle.rules.proofs.State.{fits, within, no-counter}
+use Rattle.rules.proofs.State.{fits, within, no-counter, some-counter-found, some-counter-hit}
 use Rattle.rules.proofs.Changes.{counter-at, end, length-recounted, head-recounted, type-recounted, counter-recounted}
 use Rattle.ledger.specs.Counters.{Changeable, recordOf, Placed, Countable, counterOverruns, changed, changedCounter}
-use Rattle.ledger.proofs.Records.{ledger-ext}
+use Rattle.ledger.proofs.Records.{recordWord-bound, bytes-recount, ledger-ext}
 
 -- One counter
 
@@ -71,29 +71,7 @@ module _ (c : Counter) (e : Entry) (p : ℕ) where
   gain-zero : gives c e p ≡ false → gain 1 (λ k. e) c p ≡ 0
   gain-zero g = gain-none 1 (λ k. e) c p (λ i l. g)
 
-  gives-at : grants c e ≡ true → first e ≤ p → p < first e + size e → gives c e p ≡ true
-  unfolding gives covers
-  gives-at g lo hi = rw (g, le-leb (first e) p lo, lt-ltb p (first e + size e) hi)
-
 -- Overruns of one entry
-
-someCounter-found : (q : Counter → Bool) → someCounter q ≡ true → (c : Counter) × (q c ≡ true)
-unfolding someCounter
-someCounter-found q h =
-    ⊎-elim (λ (t : (q writable || q executable) ≡ true). ⊎-elim (λ (u : q writable ≡ true). (writable, u)) (λ (u : q executable ≡ true). (executable, u)) (or-cases (q writable) (q executable) t))
-    (λ (t : q linked ≡ true). (linked, t))
-    (or-cases (q writable || q executable) (q linked) h)
-
-someCounter-hit : (q : Counter → Bool) (c : Counter) → q c ≡ true → someCounter q ≡ true
-unfolding someCounter
-someCounter-hit q writable h = rw h refl
-someCounter-hit q executable h = rw (h, or-true (q writable)) refl
-someCounter-hit q linked h = rw h (or-true (q writable || q executable))
-
-same-truth : (a b : Bool) → (a ≡ true → b ≡ true) → (b ≡ true → a ≡ true) → a ≡ b
-same-truth true b f g = sym (f refl)
-same-truth false true f g = g refl
-same-truth false false f g = refl
 
 module _ (d : Change) (s : Store) (e : Entry) (length-is : length (s .ledger) ≡ head + width * blocks s) (placed : Placed (s .ledger) e) where
   abbrev at : Counter → ℕ → Bool
@@ -105,10 +83,10 @@ module _ (d : Change) (s : Store) (e : Entry) (length-is : length (s .ledger) �
   -- "13": an entry overruns some counter of the region exactly if it overruns a counter by which it counts
   pub overruns-entry : someCounter (λ c. counterOverruns d (s .ledger) c e) ≡ someOverrun d s 1 (λ k. e)
   unfolding counterOverruns someOverrun someBlock
-  overruns-entry = same-truth _ _ there back where
+  overruns-entry = both-ways _ _ there back where
     there : someCounter (λ c. counterOverruns d (s .ledger) c e) ≡ true → any (blocks s) region ≡ true
     there h =
-        let (c, t) = someCounter-found (λ c. counterOverruns d (s .ledger) c e) h in
+        let (c, t) = some-counter-found (λ c. counterOverruns d (s .ledger) c e) h in
         let scan = any (size e) (λ i. at c (recordOf (s .ledger) e + i)) in
         let g = and-true-left (grants c e) scan t in
         let (i, l, o) = any-found (λ i. at c (recordOf (s .ledger) e + i)) (size e) (and-true-right (grants c e) scan t) in
@@ -116,18 +94,18 @@ module _ (d : Change) (s : Store) (e : Entry) (length-is : length (s .ledger) �
         let b = recordOf (s .ledger) e + i in
         let one = gain-one c e (base s + b) (gives-at c e (base s + b) g (omega arith) (omega arith)) in
         any-hit region (blocks s) b (omega arith)
-        (someCounter-hit (λ c. overruns d (counter c s (base s + b)) (gain 1 (λ k. e) c (base s + b))) c (rw (counter-at c s b, one) o))
+        (some-counter-hit (λ c. overruns d (counter c s (base s + b)) (gain 1 (λ k. e) c (base s + b))) c (rw (counter-at c s b, one) o))
 
     back : any (blocks s) region ≡ true → someCounter (λ c. counterOverruns d (s .ledger) c e) ≡ true
     back h =
         let (b, l, t) = any-found region (blocks s) h in
-        let (c, o) = someCounter-found (λ c. overruns d (counter c s (base s + b)) (gain 1 (λ k. e) c (base s + b))) t in
+        let (c, o) = some-counter-found (λ c. overruns d (counter c s (base s + b)) (gain 1 (λ k. e) c (base s + b))) t in
         let some = overruns-some d (counter c s (base s + b)) (gain 1 (λ k. e) c (base s + b)) o in
         let g = gain-found 1 (λ k. e) c (base s + b) some .2 in
         let (grant, lo, hi) = gives-within c e (base s + b) g in
         let is : recordOf (s .ledger) e + (base s + b - first e) ≡ b = omega (arith, placed c grant .0) in
         let hit : at c (recordOf (s .ledger) e + (base s + b - first e)) ≡ true = rw is (rw (counter-at c s b, gain-one c e (base s + b) g) at o) in
-        someCounter-hit (λ c. counterOverruns d (s .ledger) c e) c (rw grant (any-hit (λ i. at c (recordOf (s .ledger) e + i)) (size e) (base s + b - first e) (omega arith) hit))
+        some-counter-hit (λ c. counterOverruns d (s .ledger) c e) c (rw grant (any-hit (λ i. at c (recordOf (s .ledger) e + i)) (size e) (base s + b - first e) (omega arith) hit))
 
 -- Adjacent records
 
@@ -164,10 +142,6 @@ module _ (d : Change) (led : List ℕ) (k b : ℕ) where
   unfolding changed putRecordWord
   bytes-changed zero h = h
   bytes-changed (suc m) h = bytes-putWord (changed d led k b m) (head + width * (b + m) + 4 * k) _ (bytes-changed m h)
-
-recordWord-bound : (led : List ℕ) (k b : ℕ) → Bytes led → recordWord led k b < 2 ^ 32
-unfolding recordWord
-recordWord-bound led k b h = word-bound led (head + width * b + 4 * k) h
 
 -- a word that is changed
 recordWord-changed : (d : Change) (led : List ℕ) (k b m n j : ℕ) → InRecord k → Bytes led → length led ≡ head + width * n → b + m ≤ n
@@ -235,11 +209,6 @@ module _ (d : Change) (led : List ℕ) (c : Counter) (e : Entry) where
     go false g = spared (false-unless (gives c e (word led basePlace + j)) (λ t. false≢true (sym g ∙ gives-within c e (word led basePlace + j) t .0)))
 
 -- All counters of an entry
-
-bytes-recount : (led : List ℕ) (n : ℕ) (f : Counter → ℕ → ℕ) → Bytes led → Bytes (recount led n f)
-unfolding recount putRecordWord
-bytes-recount led zero f h = h
-bytes-recount led (suc n) f h = bytes-putWord _ _ _ (bytes-putWord _ _ _ (bytes-putWord (recount led n f) _ _ (bytes-recount led n f h)))
 
 module _ (d : Change) (s : Store) (length-is : length (s .ledger) ≡ head + width * blocks s) (bytes : Bytes (s .ledger)) (e : Entry) where
   -- a ledger that differs from the store's in counters only
@@ -329,18 +298,6 @@ module _ (d : Change) (s : Store) (length-is : length (s .ledger) ≡ head + wid
         (λ c b l. ends c b l ∙ sym (counter-recounted d s 1 one length-is c b l (end-bound c b l)))
 
 -- What the tests of a call say of an entry
-
-grants-size : (c : Counter) (e : Entry) → grants c e ≡ true → 0 < size e
-unfolding grants allows rights isLink size
-grants-size c (link p) h = omega arith
-grants-size c (section b r) h = omega arith
-grants-size c (page b r) h = omega arith
-grants-size writable fault h = absurd (false≢true h)
-grants-size executable fault h = absurd (false≢true h)
-grants-size linked fault h = absurd (false≢true h)
-grants-size writable unaccepted h = absurd (false≢true h)
-grants-size executable unaccepted h = absurd (false≢true h)
-grants-size linked unaccepted h = absurd (false≢true h)
 
 -- 1 and 10 do not apply
 pub placed : (s : Store) (e : Entry) → misfit s (base s) ≡ false → astray (base s) (blocks s) e ≡ false → Placed (s .ledger) e

@@ -2,14 +2,24 @@
 use mathlib.Core.List.{List}
 use mathlib.Core.Logic.{⊎-elim}
 use mathlib.Core.Path.{_≡_, sym, _∙_, ap}
-use Prim.Native.Nat.{ℕ, zero, suc, _+_, _-_, _*_, _/_, _%_, _<_, _≤_}
+use Prim.Native.Nat.{ℕ, zero, suc, _+_, _-_, _*_, _/_, _%_, _^_, _<_, _≤_}
 use native.Mathlib.Omega.{arith}
 use lib.ListN.{length, getD}
 use lib.Seq.{ext-getD}
 use Rattle.words.specs.Words.{bits, word}
 use Rattle.words.proofs.Bounded.{below-or-above}
-use Rattle.words.proofs.Words.{Bytes, getD-putWord-same, putWord-self}
-use Rattle.rules.specs.Store.{head, width, recordWord, typePlace, Counter, writable, executable, linked, counterPlace}
+use Rattle.words.proofs.Words.{Bytes, word-bound, bytes-putWord, getD-putWord-same, putWord-self}
+use Rattle.rules.specs.Store.{head, width, recordWord, putRecordWord, recount, typePlace, Counter, writable, executable, linked, counterPlace}
+
+-- the words of a ledger of bytes, and its bytes when it is recounted
+pub recordWord-bound : (led : List ℕ) (k b : ℕ) → Bytes led → recordWord led k b < 2 ^ 32
+unfolding recordWord
+recordWord-bound led k b h = word-bound led (head + width * b + 4 * k) h
+
+pub bytes-recount : (led : List ℕ) (n : ℕ) (f : Counter → ℕ → ℕ) → Bytes led → Bytes (recount led n f)
+unfolding recount putRecordWord
+bytes-recount led zero f h = h
+bytes-recount led (suc n) f h = bytes-putWord _ _ _ (bytes-putWord _ _ _ (bytes-putWord (recount led n f) _ _ (bytes-recount led n f h)))
 
 -- a byte is a part of its word
 byte-of-word : (xs : List ℕ) (a k : ℕ) → Bytes xs → k < 4 → a + k < length xs → getD xs (a + k) 0 ≡ bits (word xs a) (8 * k) 8

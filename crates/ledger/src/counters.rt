@@ -15,11 +15,12 @@ ghost use Prim.Native.Nat.{ℕ, _+_, _<_};
 ghost use Rattle.words.specs.Bounded.{any};
 ghost use Rattle.entries.specs.Meaning.{meaning};
 ghost use Rattle.rules.specs.Store as store;
-ghost use Rattle.rules.specs.Store.{base as storedBase, blocks, counterPlace, lent, misfit, putRecordWord, recordWord};
+ghost use Rattle.rules.specs.Store.{base as storedBase, blocks, counterPlace, lent, putRecordWord, recordWord};
 ghost use Rattle.rules.specs.Tables.{astray, grants};
 ghost use Rattle.rules.specs.General.{endValue, overruns, recounted, someOverrun};
 ghost use Rattle.ledger.specs.Records.{InLedger};
 ghost use Rattle.ledger.specs.Counters.{Changeable, Countable, Placed, changeOf, changed, changedCounter, counterOf, counterOverruns};
+ghost use Rattle.ledger.specs.Lent.{Fits};
 
 // An entry is added to the counters, or taken away from them.
 pub enum Change {
@@ -144,7 +145,7 @@ fn change_counter(change: Change, ledger: &mut [u8], counter: Counter, e: Entry)
 
 // Some counter by which the entry counts would overrun. Of the memory only the number of blocks matters.
 pub fn entry_overruns(change: Change, memory: &[u8], ledger: &[u8], e: Entry) -> bool
-    requires { ⌜ misfit (lent (now memory) (now ledger)) (storedBase (lent (now memory) (now ledger))) ≡ false ⌝ }
+    requires { ⌜ Fits (now memory) (now ledger) ⌝ }
     requires { ⌜ astray (storedBase (lent (now memory) (now ledger))) (blocks (lent (now memory) (now ledger))) (meaning e) ≡ false ⌝ }
     ensures { λ r. ⌜ r ≡ someOverrun (changeOf change) (lent (now (memory .entry)) (now (ledger .entry))) 1 (λ k. meaning e) ⌝ }
 {
@@ -159,7 +160,7 @@ pub fn entry_overruns(change: Change, memory: &[u8], ledger: &[u8], e: Entry) ->
 
 // Adds the entry to the counters, or takes it away.
 pub fn change_entry(change: Change, memory: &[u8], ledger: &mut [u8], e: Entry)
-    requires { ⌜ misfit (lent (now memory) (now ledger)) (storedBase (lent (now memory) (now ledger))) ≡ false ⌝ }
+    requires { ⌜ Fits (now memory) (now ledger) ⌝ }
     requires { ⌜ astray (storedBase (lent (now memory) (now ledger))) (blocks (lent (now memory) (now ledger))) (meaning e) ≡ false ⌝ }
     requires { ⌜ ((c : store.Counter) → Countable (changeOf change) (now ledger) c (meaning e)) ⌝ }
     ensures { λ r. ⌜ now (ledger .exit) ≡ recounted (changeOf change) (lent (now (memory .entry)) (now (ledger .entry))) 1 (λ k. meaning e) ⌝ }

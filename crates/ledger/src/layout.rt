@@ -6,7 +6,7 @@ ghost use lib.ListN.{length};
 ghost use Rattle.words.specs.Words.{word, putWord};
 ghost use Rattle.rules.specs.Store.{head, width, basePlace, activePlace, recordWord, putRecordWord};
 
-pub const BLOCK_BYTES: usize = 4096;
+pub const BLOCK_BYTES: usize = signature::golden::BLOCK_BYTES;
 
 pub const BLOCK_WORDS: u32 = 1024;
 

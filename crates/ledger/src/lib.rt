@@ -4,5 +4,5 @@ pub mod layout; // layout.rt: where the ledger keeps what
 pub mod refusals; // refusals.rt: the numbers that the calls answer
 pub mod region; // region.rt: refusal 1, and places in the region
 pub mod rights; // rights.rt: what a number of rights allows
-pub mod scan; // scan.rt: tests of adjacent records
+pub mod scan; // scan.rt: tests of adjacent blocks
 pub mod table; // table.rt: where a table lies and its type

@@ -9,6 +9,7 @@ use crate::layout::WIDTH;
 use crate::layout::base;
 use entries::entry;
 use entries::entry::Entry;
+use signature::golden::DIGEST_BYTES;
 ghost use mathlib.Core.Path.{_≡_};
 ghost use Prim.Native.Nat.{_/_, _<_, _^_};
 ghost use lib.ListN.{length};
@@ -16,8 +17,6 @@ ghost use Rattle.entries.specs.Meaning.{meaning};
 ghost use Rattle.rules.specs.Signature.{misfitImage};
 ghost use Rattle.rules.specs.Store.{base as storedBase, blockBytes, lent, misfit, outside};
 ghost use Rattle.rules.specs.Tables.{astray};
-
-const DIGEST_BYTES: usize = 32;
 
 const MOST_DIGESTS: usize = 1024;
 

@@ -2,7 +2,7 @@
 use mathlib.Core.Bool.{Bool, true, false, not, _&&_, _||_, and-assoc}
 use mathlib.Core.List.{List, [], _∷_, _++_}
 use mathlib.Core.Path.{_≡_, refl, sym, _∙_, ap}
-use Prim.Native.Nat.{ℕ, _+_, _-_, _%_, _^_, _<_}
+use Prim.Native.Nat.{ℕ, _+_, _%_, _^_, _<_}
 use native.Mathlib.Nat.{add-zero}
 use native.Mathlib.Omega.{arith}
 use lib.Dec.{leb, ltb}
@@ -19,6 +19,7 @@ use Rattle.rules.specs.Map.{unlawfulRights, unfitTarget, mapRefusals}
 use Rattle.rules.proofs.Refusals.{Passed, passed, now, rest}
 use Rattle.rules.proofs.State.{equal, fits, within}
 use Rattle.rules.proofs.Edits.{one-word}
+use Rattle.rules.proofs.Mapping.{covered-above}
 use Rattle.ledger.specs.Counters.{Countable}
 use Rattle.ledger.proofs.Counting.{countable}
 use Rattle.ledger.proofs.Judge.{Decides, decides}
@@ -31,10 +32,6 @@ or-none true = refl
 or-none false = refl
 
 -- The target
-
-covered-above : (f : Form) → 0 < covered f
-covered-above sections = omega arith
-covered-above pages = omega arith
 
 pub mapping-astray : (f : Form) (B n t r : ℕ) → outside B n t (covered f) ≡ false → astray B n (mapping f t r) ≡ false
 unfolding astray first size

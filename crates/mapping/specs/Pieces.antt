@@ -11,10 +11,6 @@ use Rattle.rules.specs.General.{otherType, executableHolder, tableOutside, misa
 use Rattle.rules.specs.Link.{linkTo}
 use Rattle.rules.specs.Map.{unfitTarget, clashingTarget, unsignedTarget}
 
--- the place of a table
-abbrev pub placeRefusals : Level → Store → ℕ → List Refusal
-placeRefusals v s p = 2 if tableOutside v s p ∷ 3 if misaligned p (tableBlocks v) ∷ []
-
 -- the block that holds an entry
 abbrev pub holderRefusals : Level → Store → ℕ → ℕ → List Refusal
 holderRefusals v s p i = 5 if otherType v s p (code v) ∷ 7 if executableHolder s p i ∷ []

@@ -24,18 +24,18 @@ use ledger::region::is_misfit_stored;
 use ledger::region::is_outside;
 use ledger::table::place_refusal;
 use ledger::table::table_entries;
-ghost use mathlib.Core.Bool.{false};
 ghost use mathlib.Core.Path.{_≡_};
 ghost use Prim.Native.Nat.{_<_};
 ghost use Rattle.rules.specs.Refusals.{answerOf};
-ghost use Rattle.rules.specs.Store.{base as storedBase, lent, misfit};
+ghost use Rattle.rules.specs.Store.{lent};
 ghost use Rattle.rules.specs.Link.{linkOutcome, linkRefusals};
 ghost use Rattle.rules.specs.Tables.{blockTables};
+ghost use Rattle.ledger.specs.Lent.{Fits};
 ghost use Rattle.mapping.specs.Pieces.{linkTargetRefusals};
 
 // Refusals 10 and 13 of the table to be linked.
 fn link_target_refusal(memory: &[u8], ledger: &[u8], target: u32, table: u32) -> u32
-    requires { ⌜ (misfit (lent (now memory) (now ledger)) (storedBase (lent (now memory) (now ledger))) ≡ false) × (table < blockTables) ⌝ }
+    requires { ⌜ Fits (now memory) (now ledger) × (table < blockTables) ⌝ }
     ensures { λ r. ⌜ r ≡ answerOf (linkTargetRefusals (lent (now (memory .entry)) (now (ledger .entry))) target table) ⌝ }
 {
     let first = base(ledger);

@@ -4,10 +4,8 @@ use ledger::layout::TYPE_L1;
 use ledger::layout::put_active;
 use ledger::refusals::ACCEPTED;
 use ledger::refusals::MISFIT;
-use ledger::refusals::WRONG_TYPE;
 use ledger::region::is_misfit_stored;
-use ledger::table::is_other_type;
-use ledger::table::place_refusal;
+use ledger::table::table_refusal;
 ghost use mathlib.Core.Path.{_≡_};
 ghost use Rattle.rules.specs.Refusals.{answerOf};
 ghost use Rattle.rules.specs.Store.{lent};
@@ -19,14 +17,7 @@ fn switch_refusal(memory: &[u8], ledger: &[u8], block: u32) -> u32
     if is_misfit_stored(memory, ledger) {
         return MISFIT;
     }
-    let place = place_refusal(Level::L1, memory, ledger, block);
-    if place != ACCEPTED {
-        return place;
-    }
-    if is_other_type(Level::L1, memory, ledger, block, TYPE_L1) {
-        return WRONG_TYPE;
-    }
-    ACCEPTED
+    table_refusal(Level::L1, memory, ledger, block, TYPE_L1)
 }
 
 pub fn switch(memory: &[u8], ledger: &mut [u8], block: u32) -> u32

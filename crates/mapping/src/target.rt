@@ -8,7 +8,6 @@ use ledger::counters::Change;
 use ledger::counters::Counter;
 use ledger::counters::entry_overruns;
 use ledger::counters::grants;
-use ledger::layout::BLOCK_BYTES;
 use ledger::layout::BLOCK_WORDS;
 use ledger::layout::EXECUTABLE;
 use ledger::layout::TYPE;
@@ -26,20 +25,18 @@ use ledger::rights::Right;
 use ledger::rights::allows;
 use ledger::scan::some_above_zero;
 use ledger::scan::some_differs;
-use signature::golden::is_signed_at;
-ghost use mathlib.Core.Bool.{false, not, _&&_};
+use ledger::scan::some_unsigned;
+ghost use mathlib.Core.Bool.{false, _&&_};
 ghost use mathlib.Core.Path.{_≡_};
-ghost use Prim.Native.Nat.{_+_, _-_, _*_, _/_, _^_, _<_, _≤_};
-ghost use lib.ListN.{length};
-ghost use Rattle.words.specs.Bounded.{above, any, neqb};
-ghost use Rattle.signature.specs.Signed.{signed};
+ghost use Prim.Native.Nat.{_+_, _-_, _/_, _^_, _<_};
+ghost use Rattle.words.specs.Bounded.{above, neqb};
 ghost use Rattle.entries.specs.Meaning.{meaning};
 ghost use Rattle.rules.specs.Refusals.{answerOf};
-ghost use Rattle.rules.specs.Store.{base as storedBase, blockBytes, executable, lent, misfit, recordWord, someBlock, typeOf};
-ghost use Rattle.rules.specs.Signature.{contents};
+ghost use Rattle.rules.specs.Store.{base as storedBase, executable, lent, recordWord, someBlock, typeOf};
 ghost use Rattle.rules.specs.Tables.{allows, gives, typeD, write};
 ghost use Rattle.rules.specs.General.{holder};
 ghost use Rattle.rules.specs.Map.{clashingTarget, unfitTarget, unlawfulRights, unsignedTarget};
+ghost use Rattle.ledger.specs.Lent.{Fits};
 ghost use Rattle.mapping.specs.Forms.{formOf};
 ghost use Rattle.mapping.specs.Pieces.{mapTargetRefusals};
 ghost use Rattle.mapping.specs.Slots.{InRegion};
@@ -97,7 +94,7 @@ fn is_unfit_target(
     target: u32,
     rights: u32,
 ) -> bool
-    requires { ⌜ (misfit (lent (now memory) (now ledger)) (storedBase (lent (now memory) (now ledger))) ≡ false) × (holder block index < 2 ^ 32) ⌝ }
+    requires { ⌜ Fits (now memory) (now ledger) × (holder block index < 2 ^ 32) ⌝ }
     ensures { λ r. ⌜ r ≡ unfitTarget (formOf form) (lent (now (memory .entry)) (now (ledger .entry))) block index target rights ⌝ }
 {
     let m = covered(form);
@@ -137,19 +134,6 @@ fn is_clashing_target(form: Form, memory: &[u8], ledger: &[u8], target: u32, rig
     false
 }
 
-// Some of the m blocks of the memory from b on, counted from its first, is not signed.
-fn some_unsigned(memory: &[u8], golden: &[u8], b: usize, m: usize) -> bool
-    requires { ⌜ blockBytes * (b + m) ≤ length (now memory) ⌝ }
-    ensures { λ r. ⌜ r ≡ any m (λ i. not (signed (contents (now (memory .entry)) (b + i)) (now (golden .entry)))) ⌝ }
-{
-    for i in 0..m {
-        if !is_signed_at(memory, BLOCK_BYTES * (b + i), golden) {
-            return true;
-        }
-    }
-    false
-}
-
 // "12 if a block to be executed is unsigned": nothing is hashed for other rights.
 fn is_unsigned_target(
     form: Form,
@@ -180,7 +164,7 @@ pub fn target_refusal(
     target: u32,
     rights: u32,
 ) -> u32
-    requires { ⌜ (misfit (lent (now memory) (now ledger)) (storedBase (lent (now memory) (now ledger))) ≡ false) × (holder block index < 2 ^ 32) ⌝ }
+    requires { ⌜ Fits (now memory) (now ledger) × (holder block index < 2 ^ 32) ⌝ }
     ensures { λ r. ⌜ r ≡ answerOf (mapTargetRefusals (formOf form) (now (golden .entry)) (lent (now (memory .entry)) (now (ledger .entry))) block index target rights) ⌝ }
 {
     if is_unfit_target(form, memory, ledger, block, index, target, rights) {

@@ -20,12 +20,12 @@ use ledger::region::is_astray;
 use ledger::region::is_misfit_stored;
 use ledger::table::place_refusal;
 use ledger::table::table_entries;
-ghost use mathlib.Core.Bool.{false};
 ghost use mathlib.Core.Path.{_≡_};
 ghost use Rattle.entries.specs.Meaning.{meaning};
 ghost use Rattle.rules.specs.Refusals.{answerOf};
-ghost use Rattle.rules.specs.Store.{base as storedBase, lent, misfit};
+ghost use Rattle.rules.specs.Store.{lent};
 ghost use Rattle.rules.specs.Unmap.{unmapOutcome, unmapRefusals};
+ghost use Rattle.ledger.specs.Lent.{Fits};
 ghost use Rattle.mapping.specs.Forms.{formOf};
 ghost use Rattle.mapping.specs.Pieces.{removalRefusals};
 
@@ -34,7 +34,7 @@ const FAULT_WORD: u32 = 0;
 
 // Refusals 8, 10 and 13 of the entry to be removed.
 fn removal_refusal(memory: &[u8], ledger: &[u8], e: Entry) -> u32
-    requires { ⌜ misfit (lent (now memory) (now ledger)) (storedBase (lent (now memory) (now ledger))) ≡ false ⌝ }
+    requires { ⌜ Fits (now memory) (now ledger) ⌝ }
     ensures { λ r. ⌜ r ≡ answerOf (removalRefusals (lent (now (memory .entry)) (now (ledger .entry))) (meaning e)) ⌝ }
 {
     if is_unaccepted(e) {

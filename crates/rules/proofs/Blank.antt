@@ -22,7 +22,7 @@ use Rattle.rules.specs.Store.{blockWords, Store, blocks, base, Counter, 
 use Rattle.rules.specs.Signature.{misfitImage, contents, certified}
 use Rattle.rules.specs.Tables.{typeD, code, tableBlocks, entries, pages, typedEntry, tableEntry, allows, grants, gain, astray}
 use Rattle.rules.specs.Begin.{beginRefusals, beginAfter, beginOutcome}
-use Rattle.rules.specs.Create.{someCount, misplaced, clash, clashes, unsigned, createRefusals, createOutcome, createAfter}
+use Rattle.rules.specs.Create.{someCount, misplaced, unfitLink, unfitWrite, clash, clashes, unsigned, createRefusals, createOutcome, createAfter}
 use Rattle.rules.specs.Steps.{Step, creates, maps, obey, run, Told, begun, told, heard, history}
 use Rattle.rules.specs.Demand3.{storeAt, toldAt}
 use Rattle.rules.specs.Policies.{WritableByOneEntry, thereAndBack}
@@ -79,7 +79,7 @@ module _ {h : Told} {s : Store} (r : Running h s) (blank : Blank (s .memory)) wh
     none-unsigned = any-avoids (λ k. unsigned (h .golden) s (entries v) entry (base s + k)) (blocks s) (λ k l. rw (no-gain executable (base s + k)) refl)
 
     create-passes : Passed (take 10 (createRefusals v (h .golden) s p))
-    unfolding misplaced astray isUnaccepted isLink rights size grants allows
+    unfolding misplaced unfitLink unfitWrite astray isUnaccepted isLink rights size grants allows
     create-passes =
         step (no-misfit r) (step image (step (inside (base s) (blocks s) p (tableBlocks v) low high) (step (same (p % tableBlocks v) 0 aligned) (step (right-type r v p typeD low high free) (step no-count
         (step (any-avoids (λ i. isUnaccepted (entry i)) (entries v) (λ i _. rw (blank v _) refl))

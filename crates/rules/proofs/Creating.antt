@@ -12,7 +12,7 @@ use Rattle.entries.specs.Entries.{Entry, Level, l2, isUnaccepted, isLink, first
 use Rattle.rules.specs.Store.{Store, blocks, base, Counter, writable, executable, linked, someCounter, typeOf, counter, someBlock, someRegionBlock}
 use Rattle.rules.specs.Tables.{typeD, code, tableBlocks, entries, tableEntry, grants, gives, gain, astray}
 use Rattle.rules.specs.General.{added, someOverrun, tableOutside, otherType}
-use Rattle.rules.specs.Create.{someCount, misplaced, clashes, unsigned, createRefusals, createAfter, createOutcome}
+use Rattle.rules.specs.Create.{someCount, unfitLink, unfitWrite, misplaced, clashes, unsigned, createRefusals, createAfter, createOutcome}
 use Rattle.rules.specs.Steps.{creates, Told, told, typed}
 use Rattle.rules.proofs.Refusals.{Passed, front, now, rest}
 use Rattle.rules.proofs.Gains.{gives-within}
@@ -59,7 +59,7 @@ module _ (v : Level) (s : Store) (p : ℕ) (x : Entry) where
     write-free : grants writable x ≡ true → someBlock (first x) (size x) notFree ≡ false
 
   place : misplaced v s p x ≡ false → Placed
-  unfolding misplaced
+  unfolding misplaced unfitLink unfitWrite
   place e =
       let stray = astray (base s) (blocks s) x in
       let badLink = isLink x && someBlock (first x) (size x) notL2 in

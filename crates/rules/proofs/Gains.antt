@@ -4,7 +4,7 @@ use mathlib.Core.Path.{_≡_, refl, sym, _∙_, ap}
 use Prim.Native.Nat.{ℕ, _+_, _-_, _<_, _≤_}
 use native.Mathlib.Numerals.{add-one}
 use native.Mathlib.Omega.{arith}
-use borrow.Author.Tests.{lt-ltb, ltb-true, leb-true}
+use borrow.Author.Tests.{lt-ltb, le-leb, ltb-true, leb-true}
 use lib.Dec.{leb, ltb}
 use Rattle.words.specs.Bounded.{above, any, sum, num}
 use Rattle.words.proofs.Bounded.{any-found, and-true-left, and-true-right}
@@ -36,6 +36,24 @@ gives-within c e p h =
       leb-true (first e) p (and-true-left (leb (first e) p) (ltb p (first e + size e)) t),
       ltb-true p (first e + size e) (and-true-right (leb (first e) p) (ltb p (first e + size e)) t),
     )
+
+-- what gives something has a place
+pub grants-size : (c : Counter) (e : Entry) → grants c e ≡ true → 0 < size e
+unfolding grants allows rights isLink size
+grants-size c (link p) h = omega arith
+grants-size c (section b r) h = omega arith
+grants-size c (page b r) h = omega arith
+grants-size writable fault h = absurd (false≢true h)
+grants-size executable fault h = absurd (false≢true h)
+grants-size linked fault h = absurd (false≢true h)
+grants-size writable unaccepted h = absurd (false≢true h)
+grants-size executable unaccepted h = absurd (false≢true h)
+grants-size linked unaccepted h = absurd (false≢true h)
+
+-- a block of the place of an entry that grants something is given it
+pub gives-at : (c : Counter) (e : Entry) (b : ℕ) → grants c e ≡ true → first e ≤ b → b < first e + size e → gives c e b ≡ true
+unfolding gives covers
+gives-at c e b g lo hi = rw (g, le-leb (first e) b lo, lt-ltb b (first e + size e) hi) refl
 
 module _ (m : ℕ) (e : ℕ → Entry) (c : Counter) (p : ℕ) where
   pub gain-most : gain m e c p ≤ m

@@ -41,7 +41,7 @@ grantable (suc (suc (suc (suc (suc (suc (suc (suc r)))))))) t u =
     let z : ⊥ = omega (arith, ltb-false 7 n (or-false-left (above n 7) (not (allows n tables.read) && (allows n tables.write || allows n tables.execute)) t)) in
     absurd z
 
-covered-above : (f : Form) → 0 < covered f
+pub covered-above : (f : Form) → 0 < covered f
 covered-above sections = omega arith
 covered-above pages = omega arith
 

@@ -1,7 +1,7 @@
 -- The invariant of every list of steps, and what it says at a moment: the ledger has what the steps told, and tables and counters agree.
-use mathlib.Core.Bool.{Bool, false, _||_}
+use mathlib.Core.Bool.{Bool, true, false, _||_, or-true}
 use mathlib.Core.List.{List}
-use mathlib.Core.Logic.{_≢_}
+use mathlib.Core.Logic.{_≢_, ⊎-elim}
 use mathlib.Core.Option.{Option, none, some}
 use mathlib.Core.Path.{_≡_, refl, sym, _∙_, ap, subst, subst₂}
 use Prim.Native.Nat.{ℕ, zero, suc, _+_, _-_, _*_, _/_, _%_, _<_, _≤_}
@@ -10,7 +10,7 @@ use lib.ListN.{length}
 use borrow.Author.Tests.{ltb-false, eqb-true, not-false}
 use lib.Dec.{eqb}
 use Rattle.words.specs.Bounded.{above, neqb}
-use Rattle.words.proofs.Bounded.{or-false-left, or-false-right, any-none}
+use Rattle.words.proofs.Bounded.{or-false-left, or-false-right, or-cases, any-none, any-hit, any-found}
 use Rattle.entries.specs.Entries.{Entry, Level}
 use Rattle.rules.specs.Store.{blockBytes, blockWords, least, most, baseAlignment, physicalBlocks, head, width, noTable, Store, blocks, base, active, recordWord, typePlace, Counter, writable, executable, linked, counterPlace, someCounter, typeOf, outside, someBlock, misfit, Outcome, settle}
 use Rattle.rules.specs.Refusals.{Refusal, answerOf}
@@ -128,11 +128,35 @@ no-block p m q e k l = any-none (λ i. q (p + i)) m e k l
 pub no-block-at : (p m : ℕ) (q : ℕ → Bool) → someBlock p m q ≡ false → (b : ℕ) → p ≤ b → b < p + m → q b ≡ false
 no-block-at p m q e b lo hi = let i : p + (b - p) ≡ b = omega arith in rw i at (no-block p m q e (b - p) (omega arith))
 
+module _ (p m : ℕ) (q : ℕ → Bool) where
+  pub some-block-hit : (b : ℕ) → p ≤ b → b < p + m → q b ≡ true → someBlock p m q ≡ true
+  unfolding someBlock
+  some-block-hit b lo hi e =
+      let i : p + (b - p) ≡ b = omega arith in
+      any-hit (λ k. q (p + k)) m (b - p) (omega arith) (rw i e)
+
+  pub some-block-found : someBlock p m q ≡ true → (b : ℕ) × (p ≤ b) × (b < p + m) × (q b ≡ true)
+  unfolding someBlock
+  some-block-found e = let (k, l, t) = any-found (λ k. q (p + k)) m e in (p + k, omega arith, omega arith, t)
+
 pub no-counter : (q : Counter → Bool) → someCounter q ≡ false → (c : Counter) → q c ≡ false
 unfolding someCounter
 no-counter q e writable = or-false-left (q writable) (q executable) (or-false-left (q writable || q executable) (q linked) e)
 no-counter q e executable = or-false-right (q writable) (q executable) (or-false-left (q writable || q executable) (q linked) e)
 no-counter q e linked = or-false-right (q writable || q executable) (q linked) e
+
+pub some-counter-found : (q : Counter → Bool) → someCounter q ≡ true → (c : Counter) × (q c ≡ true)
+unfolding someCounter
+some-counter-found q h =
+    ⊎-elim (λ (t : (q writable || q executable) ≡ true). ⊎-elim (λ (u : q writable ≡ true). (writable, u)) (λ (u : q executable ≡ true). (executable, u)) (or-cases (q writable) (q executable) t))
+    (λ (t : q linked ≡ true). (linked, t))
+    (or-cases (q writable || q executable) (q linked) h)
+
+pub some-counter-hit : (q : Counter → Bool) (c : Counter) → q c ≡ true → someCounter q ≡ true
+unfolding someCounter
+some-counter-hit q writable h = rw h refl
+some-counter-hit q executable h = rw (h, or-true (q writable)) refl
+some-counter-hit q linked h = rw h (or-true (q writable || q executable))
 
 module _ {h : Told} {s : Store} (r : Running h s) where
   -- the ledger's types are those told

@@ -17,7 +17,7 @@ use Rattle.rules.specs.Store.{head, width, limit, basePlace, blocks, bas
 use Rattle.rules.specs.Signature.{misfitImage}
 use Rattle.rules.specs.Tables.{write, typeD, entries, tableEntry, code, allows, grants, gives, gain, astray}
 use Rattle.rules.specs.General.{endValue, endsBelow, overruns, someOverrun}
-use Rattle.rules.specs.Create.{someCount, misplaced, clash, clashes, unsigned as unsignedBy, createRefusals}
+use Rattle.rules.specs.Create.{someCount, unfitLink, unfitWrite, misplaced, clash, clashes, unsigned as unsignedBy, createRefusals}
 use Rattle.rules.specs.Free.{inUse, freeRefusals}
 use borrow.Author.Tests.{lt-ltb}
 use Rattle.rules.proofs.Refusals.{Decides, here, past, decides}
@@ -110,7 +110,7 @@ unfolding word recordWord l2Entry isPageForm isUnaccepted
 create-8 = create-from-8 1 ledger refl refl refl (refl, refl, refl) (here (some-entry 1 ledger refl isUnaccepted (ap isUnaccepted (first-entry 1 (omega arith) .1))))
 
 create-10 : answerOf (createRefusals l2 [] (lent 0x6403F ledger) 0) ≡ 10
-unfolding word recordWord l2Entry isPageForm isUnaccepted misplaced astray outside first size
+unfolding word recordWord l2Entry isPageForm isUnaccepted misplaced unfitLink unfitWrite astray outside first size
 create-10 =
     let w : ℕ = 0x6403F in
     let e = first-entry w (omega arith) .1 in
@@ -121,7 +121,7 @@ create-10 =
 -- up to 10 nothing is held against a page in block 5
 create-from-11 : {k : ℕ} (w r : ℕ) → w < 2 ^ 32 → l2Entry w ≡ page 5 r → (led : List ℕ) → length led ≡ head + width * 8 → word led basePlace ≡ 0 → recordWord led typePlace 0 ≡ 0
     → recordWord led typePlace 5 ≡ 0 → Uncounted led → Decides (drop 8 (createRefusals l2 [] (lent w led) 0)) k → answerOf (createRefusals l2 [] (lent w led) 0) ≡ k
-unfolding isUnaccepted misplaced astray outside first size isLink grants allows rights
+unfolding isUnaccepted misplaced unfitLink unfitWrite astray outside first size isLink grants allows rights
 create-from-11 w r h is led l based type free c d =
     let e = first-entry w h .1 ∙ is in
     create-from-8 w led l based type c

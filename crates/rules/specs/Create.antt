@@ -15,12 +15,17 @@ use Rattle.rules.specs.General.{tableOutside, misaligned, otherType, som
 unfoldable pub someCount : Level → Store → ℕ → Bool
 someCount v s p = someBlock p (tableBlocks v) (λ b. someCounter (λ c. above (counter c s b) 0))
 
+-- "a link's block isn't L2"
+unfoldable pub unfitLink : Store → Entry → Bool
+unfitLink s e = isLink e && someBlock (first e) (size e) (λ b. neqb (typeOf s b) (code l2))
+
+-- "a writable target isn't D or is one of the blocks being typed"
+unfoldable pub unfitWrite : Level → Store → ℕ → Entry → Bool
+unfitWrite v s p e = grants writable e && someBlock (first e) (size e) (λ b. neqb (typeOf s b) typeD || leb p b && ltb b (p + tableBlocks v))
+
 -- "10 if some entry's place is not wholly in the region, a link's block isn't L2, or a writable target isn't D or is one of the blocks being typed"
 unfoldable pub misplaced : Level → Store → ℕ → Entry → Bool
-misplaced v s p e =
-    astray (base s) (blocks s) e
-    || isLink e && someBlock (first e) (size e) (λ b. neqb (typeOf s b) (code l2))
-    || grants writable e && someBlock (first e) (size e) (λ b. neqb (typeOf s b) typeD || leb p b && ltb b (p + tableBlocks v))
+misplaced v s p e = astray (base s) (blocks s) e || unfitLink s e || unfitWrite v s p e
 
 -- "11 if a block that a new entry makes writable or executable would end with w and x both above 0": w, x, and what the new entries add to them
 unfoldable pub clash : ℕ → ℕ → ℕ → ℕ → Bool

@@ -6,9 +6,9 @@ ghost use lib.ListN.{length};
 ghost use Rattle.words.specs.Lists.{part};
 ghost use Rattle.signature.specs.Signed.{blockBytes, listed, signed};
 
-const BLOCK_BYTES: usize = 4096;
+pub const BLOCK_BYTES: usize = 4096;
 
-const DIGEST_BYTES: usize = 32;
+pub const DIGEST_BYTES: usize = 32;
 
 fn is_listed(d: [u8; 32], golden: &[u8]) -> bool
     ensures { λ r. ⌜ r ≡ listed d (now (golden .entry)) ⌝ }

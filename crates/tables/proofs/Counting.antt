@@ -1,30 +1,32 @@
 -- Entries are counted one by one: a counter overruns on the way or at the end exactly if it overruns at once, and what was counted can be taken back.
-use mathlib.Core.Bool.{Bool, true, false, _&&_, _||_, or-true}
+use mathlib.Core.Bool.{Bool, true, false, not, _&&_}
 use mathlib.Core.List.{List}
 use mathlib.Core.Logic.{⊎-elim}
-use mathlib.Core.Path.{_≡_, refl, _∙_}
+use mathlib.Core.Path.{_≡_, refl, sym, _∙_}
 use Prim.Native.Nat.{ℕ, zero, suc, _+_, _-_, _*_, _^_, _<_, _≤_}
 use native.Mathlib.Nat.{add-zero, add-suc}
-use native.Mathlib.Numerals.{add-one}
 use native.Mathlib.Omega.{arith}
 use lib.ListN.{length}
-use borrow.Author.Tests.{lt-ltb, le-ltb, ltb-true, ltb-false}
+use lib.Dec.{leb}
+use borrow.Author.Tests.{lt-ltb, le-ltb, le-leb, lt-leb, ltb-true, ltb-false, leb-true}
 use Rattle.words.specs.Bounded.{above, any, sum, num}
-use Rattle.words.proofs.Bounded.{any-hit, any-found, or-cases, or-false-left, or-false-right, and-true, and-false-right, below-or-above}
-use Rattle.words.proofs.Words.{Bytes, word-bound, bytes-putWord}
+use Rattle.words.proofs.Bounded.{both-ways, or-right, and-both, any-hit, any-found, or-cases, or-false-left, or-false-right, and-true, and-true-left, and-false-right, below-or-above}
+use Rattle.words.proofs.Words.{Bytes}
 use Rattle.entries.specs.Entries.{Entry, first, size}
-use Rattle.rules.specs.Store.{head, width, limit, basePlace, Store, lent, blocks, base, recordWord, putRecordWord, Counter, writable, executable, linked, counterPlace, someCounter, counter, recount, someBlock, someRegionBlock, misfit}
+use Rattle.rules.specs.Store.{head, width, limit, basePlace, Store, lent, blocks, base, recordWord, Counter, counterPlace, someCounter, counter, someBlock, someRegionBlock, misfit}
 use Rattle.rules.specs.Tables.{grants, gives, gain, astray}
 use Rattle.rules.specs.General.{Change, added, removed, endValue, endsBelow, overruns, someOverrun, recounted}
-use Rattle.rules.proofs.Gains.{gives-within, gain-hit, gain-none, gain-found}
-use Rattle.rules.proofs.State.{fits, no-block-at, no-counter}
+use Rattle.rules.proofs.Gains.{gives-within, gives-at, gain-more, gain-hit, gain-none, gain-found}
+use Rattle.rules.proofs.State.{fits, some-block-hit, some-block-found, no-block-at, no-counter, some-counter-found, some-counter-hit}
 use Rattle.rules.proofs.Changes.{counter-at, end, length-recounted, head-recounted, type-recounted, counter-recounted}
 use Rattle.ledger.specs.Counters.{Changeable, Countable}
-use Rattle.ledger.proofs.Records.{ledger-ext}
+use Rattle.ledger.specs.Lent.{Fits}
+use Rattle.ledger.proofs.Records.{recordWord-bound, bytes-recount, ledger-ext}
 use Rattle.ledger.proofs.Counting.{recounted-more}
-use Rattle.tables.specs.Counting.{beyond, counterBeyond, entryBeyond, leastOf, mostOf, Room, Roomy, Storable, AllStorable, opposite, Counted}
-use Rattle.tables.specs.Lent.{Fits, Placed}
-use Rattle.tables.proofs.Places.{both-ways, or-right, and-both, some-block-hit, some-block-found, gives-at, in-region}
+use Rattle.validation.specs.Bounds.{beyond, counterBeyond, entryBeyond}
+use Rattle.validation.specs.Lent.{Placed}
+use Rattle.validation.proofs.Places.{in-region}
+use Rattle.tables.specs.Counting.{complete, leastOf, mostOf, Room, Roomy, Storable, AllStorable, opposite, Counted}
 
 -- One counter, changed by k from old
 
@@ -68,47 +70,18 @@ storable-back removed old k small r = (omega arith, omega arith)
 -- What entries give
 
 module _ (e : ℕ → Entry) (c : Counter) (p : ℕ) where
-  gain-more : (i : ℕ) → gain (i + 1) e c p ≡ gain i e c p + num (gives c (e i) p)
-  unfolding gain sum
-  gain-more i = rw add-one refl
-
   gain-given : (i : ℕ) → gives c (e i) p ≡ true → gain (i + 1) e c p ≡ gain i e c p + 1
   unfolding num
-  gain-given i g = gain-more i ∙ (rw g refl)
+  gain-given i g = gain-more i e c p ∙ (rw g refl)
 
   gain-spared : (i : ℕ) → gives c (e i) p ≡ false → gain (i + 1) e c p ≡ gain i e c p
   unfolding num
-  gain-spared i g = gain-more i ∙ (rw g (omega arith))
+  gain-spared i g = gain-more i e c p ∙ (rw g (omega arith))
 
   gain-grows : (k i : ℕ) → gain i e c p ≤ gain (i + k) e c p
   unfolding gain sum
   gain-grows zero i = rw add-zero (omega arith)
   gain-grows (suc k) i = rw add-suc (omega (arith, gain-grows k i))
-
--- Some counter
-
-someCounter-found : (q : Counter → Bool) → someCounter q ≡ true → (c : Counter) × (q c ≡ true)
-unfolding someCounter
-someCounter-found q h =
-    ⊎-elim (λ t. ⊎-elim (λ (u : q writable ≡ true). (writable, u)) (λ (u : q executable ≡ true). (executable, u)) (or-cases (q writable) (q executable) t))
-    (λ (t : q linked ≡ true). (linked, t))
-    (or-cases (q writable || q executable) (q linked) h)
-
-someCounter-hit : (q : Counter → Bool) (c : Counter) → q c ≡ true → someCounter q ≡ true
-unfolding someCounter
-someCounter-hit q writable h = rw h refl
-someCounter-hit q executable h = rw (h, or-true (q writable)) refl
-someCounter-hit q linked h = rw h (or-true (q writable || q executable))
-
--- bytes
-recordWord-bound : (led : List ℕ) (k b : ℕ) → Bytes led → recordWord led k b < 2 ^ 32
-unfolding recordWord
-recordWord-bound led k b h = word-bound led (head + width * b + 4 * k) h
-
-bytes-recount : (led : List ℕ) (n : ℕ) (f : Counter → ℕ → ℕ) → Bytes led → Bytes (recount led n f)
-unfolding recount putRecordWord
-bytes-recount led zero f h = h
-bytes-recount led (suc n) f h = bytes-putWord _ _ _ (bytes-putWord _ _ _ (bytes-putWord (recount led n f) _ _ (bytes-recount led n f h)))
 
 -- The region's blocks, by their places in it
 
@@ -177,14 +150,14 @@ module _ (d : Change) (s : Store) (e : ℕ → Entry) (length-is : length (s .le
     unfolding someOverrun
     overrun-at c b l o =
         region-hit s (λ b. someCounter (λ c. overruns d (counter c s b) (gain m e c b))) b l
-        (someCounter-hit (λ c. overruns d (counter c s (base s + b)) (gain m e c (base s + b))) c (rw (counter-at c s b) o))
+        (some-counter-hit (λ c. overruns d (counter c s (base s + b)) (gain m e c (base s + b))) c (rw (counter-at c s b) o))
 
     -- what an entry beyond its bounds says, when i entries are counted
     beyond-found : (i k least most : ℕ) → k < m → AllStorable d s i e → entryBeyond least most (counted i) (e k) ≡ true
         → (c : Counter) × (b : ℕ) × (b < blocks s) × (gives c (e k) (base s + b) ≡ true) × (beyond least most (end d s i e c b) ≡ true)
     unfolding entryBeyond counterBeyond
     beyond-found i k least most l st t =
-        let (c, h) = someCounter-found (λ c. counterBeyond least most (counted i) c (e k)) t in
+        let (c, h) = some-counter-found (λ c. counterBeyond least most (counted i) c (e k)) t in
         let q : ℕ → Bool = λ p. beyond least most (counter c (counted i) p) in
         let (grant, some) = and-true (grants c (e k)) (someBlock (first (e k)) (size (e k)) q) h in
         let (b, n, g, u) = own-found s q c (e k) (inside k l) grant some in
@@ -195,7 +168,7 @@ module _ (d : Change) (s : Store) (e : ℕ → Entry) (length-is : length (s .le
     unfolding entryBeyond counterBeyond
     beyond-hit i k least most st c b n g u =
         let q : ℕ → Bool = λ p. beyond least most (counter c (counted i) p) in
-        someCounter-hit (λ c. counterBeyond least most (counted i) c (e k)) c (own-hit s q c (e k) b g (rw (counter-counted i st c b n) u))
+        some-counter-hit (λ c. counterBeyond least most (counted i) c (e k)) c (own-hit s q c (e k) b g (rw (counter-counted i st c b n) u))
 
     -- "13": an entry that can't be changed
     pub stuck-overruns : (i : ℕ) → i < m → Roomy d s i e → entryBeyond (leastOf d) (mostOf d) (counted i) (e i) ≡ true → someOverrun d s m e ≡ true
@@ -213,7 +186,7 @@ module _ (d : Change) (s : Store) (e : ℕ → Entry) (length-is : length (s .le
       there : someOverrun d s m e ≡ true → any m (λ i. entryBeyond 0 limit (counted m) (e i)) ≡ true
       there h =
           let (b, n, t) = region-found s (λ b. someCounter (λ c. overruns d (counter c s b) (gain m e c b))) h in
-          let (c, o) = someCounter-found (λ c. overruns d (counter c s (base s + b)) (gain m e c (base s + b))) t in
+          let (c, o) = some-counter-found (λ c. overruns d (counter c s (base s + b)) (gain m e c (base s + b))) t in
           let (some, over) = and-true (above (gain m e c (base s + b)) 0) (above (end d s m e c b) limit) (rw (counter-at c s b, room-overruns d _ (gain m e c (base s + b)) (r c b n)) at o) in
           let (i, l, g) = gain-found m e c (base s + b) (ltb-true 0 (gain m e c (base s + b)) some) in
           any-hit (λ i. entryBeyond 0 limit (counted m) (e i)) m i l
@@ -309,11 +282,25 @@ module _ (d : Change) (s : Store) (e : ℕ → Entry) (m : ℕ) (fit : misfit s 
   pub counted-back : AllStorable (opposite d) (lent (s .memory) led) r e
   counted-back = rw (done .ledger-is) (back-storable d s e ledger-length bytes r storable)
 
-  pub counted-undone : {led′ : List ℕ} → led′ ≡ recounted (opposite d) (lent (s .memory) led) r e → led′ ≡ s .ledger
-  counted-undone q = rw (done .ledger-is) at q ∙ taken-back d s e ledger-length bytes r storable
+  stuck-overrun : r < m → someOverrun d s m e ≡ true
+  stuck-overrun l = stuck-overruns d s e ledger-length bytes m placed r l (done .roomy) (done .stuck l)
 
-  pub counted-stuck : r < m → someOverrun d s m e ≡ true
-  counted-stuck l = stuck-overruns d s e ledger-length bytes m placed r l (done .roomy) (done .stuck l)
+  end-overrun : r ≡ m → someOverrun d s m e ≡ any m (λ i. entryBeyond 0 limit (lent (s .memory) led) (e i))
+  end-overrun q = rw (done .ledger-is, q) (end-overruns d s e ledger-length bytes m placed (rw q at (done .roomy)))
 
-  pub counted-end : r ≡ m → someOverrun d s m e ≡ any m (λ i. entryBeyond 0 limit (lent (s .memory) led) (e i))
-  counted-end q = rw (done .ledger-is, q) (end-overruns d s e ledger-length bytes m placed (rw q at (done .roomy)))
+  overrun-is : not (someOverrun d s m e) ≡ complete (lent (s .memory) led) m e r
+  overrun-is =
+      let most = done .at-most in
+      ⊎-elim (λ (h : r < m). rw (stuck-overrun h, lt-leb m r h) refl) (λ (h : m ≤ r). rw (end-overrun (omega arith), le-leb m r h) refl) (below-or-above r m)
+
+  -- all are counted, or what was counted is taken back
+  pub counted-all : complete (lent (s .memory) led) m e r ≡ true → (true ≡ not (someOverrun d s m e)) × (led ≡ recounted d s m e)
+  counted-all t =
+      let most = done .at-most in
+      let least = leb-true m r (and-true-left (leb m r) (not (any m (λ i. entryBeyond 0 limit (lent (s .memory) led) (e i)))) t) in
+      let all : r ≡ m = omega arith in
+      (sym (overrun-is ∙ t), rw all at (done .ledger-is))
+
+  pub counted-undone : {led′ : List ℕ} → complete (lent (s .memory) led) m e r ≡ false → led′ ≡ recounted (opposite d) (lent (s .memory) led) r e
+      → (false ≡ not (someOverrun d s m e)) × (led′ ≡ s .ledger)
+  counted-undone t q = (sym (overrun-is ∙ t), rw (done .ledger-is) at q ∙ taken-back d s e ledger-length bytes r storable)

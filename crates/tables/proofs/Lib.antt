@@ -1,6 +1,4 @@
 pub mod Clearing
-pub mod Places
-pub mod Conflicts
 pub mod Counting
 pub mod TableRecords
-pub mod Chains
+pub mod Fronts

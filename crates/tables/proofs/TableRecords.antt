@@ -5,12 +5,12 @@ use mathlib.Core.Path.{_≡_, refl, sym, _∙_, ap₂}
 use Prim.Native.Nat.{ℕ, _+_, _-_, _≤_}
 use native.Mathlib.Numerals.{add-one}
 use Rattle.words.specs.Bounded.{above, any}
+use Rattle.words.proofs.Bounded.{any-or}
 use Rattle.entries.specs.Entries.{Level}
 use Rattle.rules.specs.Store.{Store, base, recordWord, putRecordWord, typePlace, Counter, writable, executable, linked, counterPlace, someCounter, counter, someBlock, retype}
 use Rattle.rules.specs.Tables.{tableBlocks}
 use Rattle.rules.specs.Create.{someCount}
 use Rattle.ledger.proofs.Blocks.{someBlock-records}
-use Rattle.tables.proofs.Places.{any-or}
 
 -- the scans of create's refusal 6
 module _ (v : Level) (s : Store) (p : ℕ) (low : base s ≤ p) where

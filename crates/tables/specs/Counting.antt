@@ -1,24 +1,15 @@
 -- Refusal 13, looked for while the entries are counted one by one.
-use mathlib.Core.Bool.{Bool, true, _&&_, _||_}
+use mathlib.Core.Bool.{Bool, true, not, _&&_}
 use mathlib.Core.List.{List}
 use mathlib.Core.Path.{_≡_}
 use Prim.Native.Nat.{ℕ, _+_, _-_, _^_, _<_, _≤_}
-use Rattle.words.specs.Bounded.{above}
-use Rattle.entries.specs.Entries.{Entry, Level, first, size}
-use Rattle.rules.specs.Store.{limit, Store, lent, blocks, base, recordWord, Counter, counterPlace, someCounter, counter, someBlock, retype}
-use Rattle.rules.specs.Tables.{typeD, code, tableBlocks, entries, tableEntry, grants, gain}
+use lib.Dec.{leb}
+use Rattle.words.specs.Bounded.{any}
+use Rattle.entries.specs.Entries.{Entry, Level}
+use Rattle.rules.specs.Store.{limit, Store, lent, blocks, base, recordWord, Counter, counterPlace, retype}
+use Rattle.rules.specs.Tables.{typeD, code, tableBlocks, entries, tableEntry, gain}
 use Rattle.rules.specs.General.{Change, added, removed, recounted}
-
--- a number is below least or above most
-abbrev pub beyond : ℕ → ℕ → ℕ → Bool
-beyond least most k = above least k || above k most
-
--- a counter by which the entry counts is below least or above most on some block of its place
-unfoldable pub counterBeyond : ℕ → ℕ → Store → Counter → Entry → Bool
-counterBeyond least most s c e = grants c e && someBlock (first e) (size e) (λ b. beyond least most (counter c s b))
-
-unfoldable pub entryBeyond : ℕ → ℕ → Store → Entry → Bool
-entryBeyond least most s e = someCounter (λ c. counterBeyond least most s c e)
+use Rattle.validation.specs.Bounds.{entryBeyond}
 
 -- the counters that can be changed by one: a counter that is added to stays within the limit
 abbrev pub leastOf : Change → ℕ
@@ -56,6 +47,10 @@ pub record Counted (d : Change) (s : Store) (m : ℕ) (e : ℕ → Entry) (r : �
   pub ledger-is : ledger ≡ recounted d s r e
   pub roomy : Roomy d s r e
   pub stuck : r < m → entryBeyond (leastOf d) (mostOf d) (lent (s .memory) (recounted d s r e)) (e r) ≡ true
+
+-- all m entries are counted, and no counter by which they count is above the limit
+abbrev pub complete : Store → ℕ → (ℕ → Entry) → ℕ → Bool
+complete s m e r = leb m r && not (any m (λ i. entryBeyond 0 limit s (e i)))
 
 -- the type of a table's blocks when its entries have been added, or removed
 abbrev pub typeAfter : Change → Level → ℕ

@@ -1,34 +1,11 @@
--- What the tests of a call that have passed say of its buffers.
+-- What the tests of a call that have passed say of the entries of the table at block p.
 use mathlib.Core.Bool.{false}
-use mathlib.Core.List.{List}
 use mathlib.Core.Path.{_≡_}
-use Prim.Native.Nat.{ℕ, _+_, _-_, _*_, _≤_}
-use lib.ListN.{length}
-use Rattle.entries.specs.Entries.{Entry, Level, first, size}
-use Rattle.ledger.specs.Records.{InLedger}
-use Rattle.rules.specs.General.{tableOutside}
-use Rattle.rules.specs.Store.{blockBytes, lent, blocks, base, outside, misfit}
-use Rattle.rules.specs.Tables.{astray}
+use Prim.Native.Nat.{ℕ, _<_}
+use Rattle.entries.specs.Entries.{Level}
+use Rattle.rules.specs.Store.{Store, blocks, base}
+use Rattle.rules.specs.Tables.{entries, tableEntry, astray}
 
--- 1 does not apply
-abbrev pub Fits : List ℕ → List ℕ → Type 0
-Fits memory ledger = misfit (lent memory ledger) (base (lent memory ledger)) ≡ false
-
--- 2 does not apply to a table at block p
-abbrev pub TableInside : Level → List ℕ → List ℕ → ℕ → Type 0
-TableInside v memory ledger p = tableOutside v (lent memory ledger) p ≡ false
-
--- the entry's place is in the region
-abbrev pub Inside : List ℕ → List ℕ → Entry → Type 0
-Inside memory ledger e = outside (base (lent memory ledger)) (blocks (lent memory ledger)) (first e) (size e) ≡ false
-
--- it is, if the entry has one
-abbrev pub Placed : List ℕ → List ℕ → Entry → Type 0
-Placed memory ledger e = astray (base (lent memory ledger)) (blocks (lent memory ledger)) e ≡ false
-
--- r is the place of the entry's first record, and the blocks from there on are in the region
-pub record FirstRecord (memory ledger : List ℕ) (e : Entry) (r : ℕ) : Type 0 where
-  pub is : r ≡ first e - base (lent memory ledger)
-  pub low : base (lent memory ledger) ≤ first e
-  pub in-memory : blockBytes * (r + size e) ≤ length memory
-  pub in-ledger : InLedger ledger (r + size e)
+-- 10 does not apply to the places of its entries
+abbrev pub EntriesPlaced : Level → Store → ℕ → Type 0
+EntriesPlaced v s p = (i : ℕ) → i < entries v → astray (base s) (blocks s) (tableEntry v s p i) ≡ false

@@ -1,6 +1,3 @@
-pub mod Conflicts
-pub mod Counting
-pub mod Entries
 pub mod Lent
-pub mod Targets
 pub mod Judged
+pub mod Counting

@@ -3,8 +3,6 @@
 use crate::own::first_record;
 use crate::own::first_word;
 use crate::own::put_types;
-use crate::scan::some_above_limit;
-use crate::target::entry_beyond;
 use entries::decode::entry_at;
 use entries::entry::Entry;
 use entries::entry::Level;
@@ -15,6 +13,8 @@ use ledger::layout::TYPE_D;
 use ledger::table::table_blocks;
 use ledger::table::table_entries;
 use ledger::table::table_type;
+use validation::scan::some_above_limit;
+use validation::target::entry_beyond;
 ghost use mathlib.Core.Bool.{cond, not};
 ghost use mathlib.Core.Path.{_≡_};
 ghost use Rattle.entries.specs.Meaning.{levelOf, meaning};
@@ -22,9 +22,12 @@ ghost use Rattle.ledger.specs.Counters.{changeOf};
 ghost use Rattle.rules.specs.General.{recounted, someOverrun};
 ghost use Rattle.rules.specs.Store.{lent};
 ghost use Rattle.rules.specs.Tables.{entries, tableEntry};
-ghost use Rattle.tables.specs.Counting.{AllStorable, Counted, entryBeyond, leastOf, mostOf, opposite as oppositeOf, turned, typeAfter};
-ghost use Rattle.tables.specs.Entries.{AllPlaced, EntriesPlaced, HoldsWords, entryFrom};
-ghost use Rattle.tables.specs.Lent.{Fits, Placed, TableInside};
+ghost use Rattle.validation.specs.Bounds.{entryBeyond};
+ghost use Rattle.validation.specs.Entries.{TablePlaced, entryFrom};
+ghost use Rattle.ledger.specs.Lent.{Fits, TableInside};
+ghost use Rattle.validation.specs.Lent.{Placed};
+ghost use Rattle.tables.specs.Counting.{AllStorable, Counted, complete, leastOf, mostOf, opposite as oppositeOf, turned, typeAfter};
+ghost use Rattle.tables.specs.Lent.{EntriesPlaced};
 
 const LARGEST_WORD: u32 = 0xFFFF_FFFF;
 
@@ -72,7 +75,7 @@ fn count_until_stuck(
     j: usize,
     m: usize,
 ) -> usize
-    requires { ⌜ Fits (now memory) (now ledger) × HoldsWords (now memory) j m × AllPlaced (levelOf level) (now memory) (now ledger) j m ⌝ }
+    requires { ⌜ TablePlaced (levelOf level) (now memory) (now ledger) j m ⌝ }
     ensures { λ r. ⌜ Counted (changeOf change) (lent (now (memory .entry)) (now (ledger .entry))) m (entryFrom (levelOf level) (now (memory .entry)) j) r (now (ledger .exit)) ⌝ }
 {
     for i in 0..m {
@@ -87,13 +90,24 @@ fn count_until_stuck(
 
 // Counts m entries.
 fn count_all(change: Change, level: Level, memory: &[u8], ledger: &mut [u8], j: usize, m: usize)
-    requires { ⌜ Fits (now memory) (now ledger) × HoldsWords (now memory) j m × AllPlaced (levelOf level) (now memory) (now ledger) j m ⌝ }
+    requires { ⌜ TablePlaced (levelOf level) (now memory) (now ledger) j m ⌝ }
     requires { ⌜ AllStorable (changeOf change) (lent (now memory) (now ledger)) m (entryFrom (levelOf level) (now memory) j) ⌝ }
     ensures { λ r. ⌜ now (ledger .exit) ≡ recounted (changeOf change) (lent (now (memory .entry)) (now (ledger .entry))) m (entryFrom (levelOf level) (now (memory .entry)) j) ⌝ }
 {
     for i in 0..m {
         change_entry(change, memory, ledger, entry_at(level, memory, j + i));
     }
+}
+
+// All m entries are counted, and no counter by which they count is above the limit.
+fn is_complete(level: Level, memory: &[u8], ledger: &[u8], j: usize, m: usize, done: usize) -> bool
+    requires { ⌜ TablePlaced (levelOf level) (now memory) (now ledger) j m ⌝ }
+    ensures { λ r. ⌜ r ≡ complete (lent (now (memory .entry)) (now (ledger .entry))) m (entryFrom (levelOf level) (now (memory .entry)) j) done ⌝ }
+{
+    if done < m {
+        return false;
+    }
+    !some_above_limit(level, memory, ledger, j, m)
 }
 
 // Counts the table's m entries, or leaves the ledger if a counter would overrun; true if they are counted.
@@ -105,20 +119,16 @@ pub fn count_table(
     j: usize,
     m: usize,
 ) -> bool
-    requires { ⌜ Fits (now memory) (now ledger) × HoldsWords (now memory) j m × AllPlaced (levelOf level) (now memory) (now ledger) j m ⌝ }
+    requires { ⌜ TablePlaced (levelOf level) (now memory) (now ledger) j m ⌝ }
     ensures { λ r. ⌜ r ≡ not (someOverrun (changeOf change) (lent (now (memory .entry)) (now (ledger .entry))) m (entryFrom (levelOf level) (now (memory .entry)) j)) ⌝ }
     ensures { λ r. ⌜ now (ledger .exit) ≡ cond r (recounted (changeOf change) (lent (now (memory .entry)) (now (ledger .entry))) m (entryFrom (levelOf level) (now (memory .entry)) j)) (now (ledger .entry)) ⌝ }
 {
     let done = count_until_stuck(change, level, memory, ledger, j, m);
-    if done < m {
-        count_all(opposite(change), level, memory, ledger, j, done);
-        return false;
+    if is_complete(level, memory, ledger, j, m, done) {
+        return true;
     }
-    if some_above_limit(level, memory, ledger, j, m) {
-        count_all(opposite(change), level, memory, ledger, j, done);
-        return false;
-    }
-    true
+    count_all(opposite(change), level, memory, ledger, j, done);
+    false
 }
 
 // The type that the table's blocks get.

@@ -1,55 +1,25 @@
 // Create L1, create L2: "Types and counters change, memory doesn't".
-use crate::clash::some_clash;
 use crate::count::turn_table;
 use crate::own::first_word;
 use crate::own::is_counted;
-use crate::own::table_refusal;
-use crate::scan::some_misplaced;
-use crate::scan::some_unaccepted;
-use crate::unsigned::some_first_unsigned;
 use entries::entry::Level;
 use ledger::counters::Change;
 use ledger::layout::TYPE_D;
 use ledger::refusals::ACCEPTED;
-use ledger::refusals::CLASH;
 use ledger::refusals::IN_USE;
 use ledger::refusals::MISFIT;
 use ledger::refusals::OVERRUN;
-use ledger::refusals::UNFIT_TARGET;
-use ledger::refusals::UNSIGNED;
-use ledger::refusals::WRONG_ENTRY;
 use ledger::region::is_misfit_image;
 use ledger::region::is_misfit_stored;
 use ledger::table::table_entries;
+use ledger::table::table_refusal;
+use validation::refusal::new_entries_refusal;
 ghost use mathlib.Core.Path.{_≡_};
 ghost use Rattle.entries.specs.Meaning.{levelOf};
 ghost use Rattle.rules.specs.Create.{createOutcome};
 ghost use Rattle.rules.specs.Refusals.{answerOf};
 ghost use Rattle.rules.specs.Store.{lent};
-ghost use Rattle.tables.specs.Judged.{createJudged, newEntries};
-ghost use Rattle.tables.specs.Lent.{Fits, TableInside};
-
-// Refusals 8, 10, 11 and 12: each over all entries before the next.
-fn entries_refusal(level: Level, memory: &[u8], ledger: &[u8], golden: &[u8], block: u32) -> u32
-    requires { ⌜ Fits (now memory) (now ledger) × TableInside (levelOf level) (now memory) (now ledger) block ⌝ }
-    ensures { λ r. ⌜ r ≡ answerOf (newEntries (levelOf level) (now (golden .entry)) (lent (now (memory .entry)) (now (ledger .entry))) block) ⌝ }
-{
-    let j = first_word(level, memory, ledger, block);
-    let m = table_entries(level) as usize;
-    if some_unaccepted(level, memory, j, m) {
-        return WRONG_ENTRY;
-    }
-    if some_misplaced(level, memory, ledger, block, j, m) {
-        return UNFIT_TARGET;
-    }
-    if some_clash(level, memory, ledger, j, m) {
-        return CLASH;
-    }
-    if some_first_unsigned(level, memory, ledger, golden, j, m) {
-        return UNSIGNED;
-    }
-    ACCEPTED
-}
+ghost use Rattle.tables.specs.Judged.{createJudged};
 
 fn create_refusal(level: Level, memory: &[u8], ledger: &[u8], golden: &[u8], block: u32) -> u32
     ensures { λ r. ⌜ r ≡ answerOf (createJudged (levelOf level) (now (golden .entry)) (lent (now (memory .entry)) (now (ledger .entry))) block) ⌝ }
@@ -67,7 +37,9 @@ fn create_refusal(level: Level, memory: &[u8], ledger: &[u8], golden: &[u8], blo
     if is_counted(level, memory, ledger, block) {
         return IN_USE;
     }
-    entries_refusal(level, memory, ledger, golden, block)
+    let j = first_word(level, memory, ledger, block);
+    let m = table_entries(level) as usize;
+    new_entries_refusal(level, memory, ledger, golden, block, j, m)
 }
 
 pub fn create(level: Level, memory: &[u8], ledger: &mut [u8], golden: &[u8], block: u32) -> u32

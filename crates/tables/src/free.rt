@@ -2,45 +2,23 @@
 use crate::count::turn_table;
 use crate::own::first_word;
 use crate::own::is_in_use;
-use crate::own::table_refusal;
-use crate::scan::some_astray;
-use crate::scan::some_unaccepted;
 use entries::entry::Level;
 use ledger::counters::Change;
-use ledger::layout::base;
 use ledger::refusals::ACCEPTED;
 use ledger::refusals::IN_USE;
 use ledger::refusals::MISFIT;
 use ledger::refusals::OVERRUN;
-use ledger::refusals::UNFIT_TARGET;
-use ledger::refusals::WRONG_ENTRY;
-use ledger::region::blocks;
 use ledger::region::is_misfit_stored;
 use ledger::table::table_entries;
+use ledger::table::table_refusal;
 use ledger::table::table_type;
+use validation::refusal::old_entries_refusal;
 ghost use mathlib.Core.Path.{_≡_};
 ghost use Rattle.entries.specs.Meaning.{levelOf};
 ghost use Rattle.rules.specs.Free.{freeOutcome};
 ghost use Rattle.rules.specs.Refusals.{answerOf};
 ghost use Rattle.rules.specs.Store.{lent};
-ghost use Rattle.tables.specs.Judged.{freeJudged, oldEntries};
-ghost use Rattle.tables.specs.Lent.{Fits, TableInside};
-
-// "8 and 10 for an unaccepted form or a place outside"
-fn entries_refusal(level: Level, memory: &[u8], ledger: &[u8], block: u32) -> u32
-    requires { ⌜ Fits (now memory) (now ledger) × TableInside (levelOf level) (now memory) (now ledger) block ⌝ }
-    ensures { λ r. ⌜ r ≡ answerOf (oldEntries (levelOf level) (lent (now (memory .entry)) (now (ledger .entry))) block) ⌝ }
-{
-    let j = first_word(level, memory, ledger, block);
-    let m = table_entries(level) as usize;
-    if some_unaccepted(level, memory, j, m) {
-        return WRONG_ENTRY;
-    }
-    if some_astray(level, memory, j, m, base(ledger), blocks(memory)) {
-        return UNFIT_TARGET;
-    }
-    ACCEPTED
-}
+ghost use Rattle.tables.specs.Judged.{freeJudged};
 
 fn free_refusal(level: Level, memory: &[u8], ledger: &[u8], block: u32) -> u32
     ensures { λ r. ⌜ r ≡ answerOf (freeJudged (levelOf level) (lent (now (memory .entry)) (now (ledger .entry))) block) ⌝ }
@@ -55,7 +33,9 @@ fn free_refusal(level: Level, memory: &[u8], ledger: &[u8], block: u32) -> u32
     if is_in_use(level, memory, ledger, block) {
         return IN_USE;
     }
-    entries_refusal(level, memory, ledger, block)
+    let j = first_word(level, memory, ledger, block);
+    let m = table_entries(level) as usize;
+    old_entries_refusal(level, memory, ledger, j, m)
 }
 
 pub fn free(level: Level, memory: &[u8], ledger: &mut [u8], block: u32) -> u32

@@ -9,11 +9,7 @@ use ledger::layout::active;
 use ledger::layout::base;
 use ledger::layout::put_record_word;
 use ledger::layout::record_word;
-use ledger::refusals::ACCEPTED;
-use ledger::refusals::WRONG_TYPE;
 use ledger::scan::some_above_zero;
-use ledger::table::is_other_type;
-use ledger::table::place_refusal;
 use ledger::table::table_blocks;
 ghost use mathlib.Core.Path.{_≡_};
 ghost use Prim.Native.Nat.{_+_, _-_, _*_, _<_, _^_};
@@ -24,9 +20,7 @@ ghost use Rattle.rules.specs.Create.{someCount};
 ghost use Rattle.rules.specs.Free.{inUse};
 ghost use Rattle.rules.specs.Store.{blockWords, lent, retype};
 ghost use Rattle.rules.specs.Store.{base as storedBase};
-ghost use Rattle.rules.specs.Refusals.{answerOf};
-ghost use Rattle.tables.specs.Judged.{tableRefusals};
-ghost use Rattle.tables.specs.Lent.{Fits, TableInside};
+ghost use Rattle.ledger.specs.Lent.{Fits, TableInside};
 
 // The place of the table's first record.
 pub fn first_record(level: Level, memory: &[u8], ledger: &[u8], block: u32) -> usize
@@ -97,19 +91,4 @@ pub fn put_types(ledger: &mut [u8], b: usize, m: usize, t: u32)
     for i in 0..m {
         put_record_word(ledger, TYPE, b + i, t);
     }
-}
-
-// Refusals 2, 3 and 5: where the table lies, and whether its blocks have type t.
-pub fn table_refusal(level: Level, memory: &[u8], ledger: &[u8], block: u32, t: u32) -> u32
-    requires { ⌜ Fits (now memory) (now ledger) ⌝ }
-    ensures { λ r. ⌜ r ≡ answerOf (tableRefusals (levelOf level) (lent (now (memory .entry)) (now (ledger .entry))) block t) ⌝ }
-{
-    let place = place_refusal(level, memory, ledger, block);
-    if place != ACCEPTED {
-        return place;
-    }
-    if is_other_type(level, memory, ledger, block, t) {
-        return WRONG_TYPE;
-    }
-    ACCEPTED
 }

@@ -1,5 +1,5 @@
 -- Laws of bounded tests: when some number below a bound has a property, and when none has.
-use mathlib.Core.Path.{_≡_, refl, sym, ap, ap₂}
+use mathlib.Core.Path.{_≡_, refl, sym, _∙_, ap, ap₂}
 use mathlib.Core.Logic.{_⊎_, inl, inr, ⊎-elim}
 use mathlib.Core.Bool.{Bool, true, false, not, _&&_, _||_, false≢true, or-true}
 use Prim.Native.Nat.{ℕ, zero, suc, _+_, _<_, _≤_}
@@ -7,8 +7,8 @@ use native.Mathlib.Nat.{eq-or-lt-of-le, le-of-suc-le-suc}
 use native.Mathlib.Decide.{decLt}
 use native.Mathlib.Numerals.{add-one}
 use native.Mathlib.Omega.{arith}
-use borrow.Author.Tests.{eq-eqb, ne-eqb}
-use Rattle.words.specs.Bounded.{any, neqb}
+use borrow.Author.Tests.{lt-ltb, le-ltb, eq-eqb, ne-eqb}
+use Rattle.words.specs.Bounded.{above, any, neqb}
 
 -- a number below n + 1 is n or below n
 pub last-or-below : {i n : ℕ} → i < suc n → (i ≡ n) ⊎ (i < n)
@@ -60,6 +60,21 @@ pub and-true : (a b : Bool) → (a && b) ≡ true → (a ≡ true) × (b ≡ tru
 and-true true b e = (refl, e)
 and-true false b e = absurd (false≢true e)
 
+-- two tests that imply each other are the same
+pub both-ways : (a b : Bool) → (a ≡ true → b ≡ true) → (b ≡ true → a ≡ true) → a ≡ b
+both-ways true b f g = sym (f refl)
+both-ways false true f g = g refl
+both-ways false false f g = refl
+
+pub or-left : (a b : Bool) → a ≡ true → (a || b) ≡ true
+or-left a b e = rw e refl
+
+pub or-right : (a b : Bool) → b ≡ true → (a || b) ≡ true
+or-right a b e = rw e (or-true a)
+
+pub and-both : (a b : Bool) → a ≡ true → b ≡ true → (a && b) ≡ true
+and-both a b e f = rw (e, f) refl
+
 module _ (p : ℕ → Bool) where
   pub any-more : (n : ℕ) → any (n + 1) p ≡ (any n p || p n)
   unfolding any
@@ -88,6 +103,15 @@ module _ (p : ℕ → Bool) where
   any-found (suc n) e =
       ⊎-elim (λ (f : any n p ≡ true). let (i, l, t) = any-found n f in (i, omega arith, t)) (λ (t : p n ≡ true). (n, omega arith, t)) (or-cases (any n p) (p n) e)
 
+  -- the first number that has p
+  pub any-first : (n : ℕ) → any n p ≡ true → (i : ℕ) × (i < n) × (p i ≡ true) × (any i p ≡ false)
+  unfolding any
+  any-first zero e = absurd (false≢true e)
+  any-first (suc n) e = go (any n p) refl (any-first n) where
+    go : (t : Bool) → any n p ≡ t → (any n p ≡ true → (i : ℕ) × (i < n) × (p i ≡ true) × (any i p ≡ false)) → (i : ℕ) × (i < suc n) × (p i ≡ true) × (any i p ≡ false)
+    go true f earlier = let (i, l, t, none) = earlier f in (i, omega arith, t, none)
+    go false f earlier = (n, omega arith, rw f at e, f)
+
   -- the turn of a search that goes on
   pub any-step : (n : ℕ) → any n p ≡ false → p n ≡ false → any (n + 1) p ≡ false
   any-step n e f = rw (any-more n, e, f) refl
@@ -97,9 +121,47 @@ unfolding any
 any-same p q zero h = refl
 any-same p q (suc n) h = ap₂ _||_ (any-same p q n (λ i l. h i (omega arith))) (h n (omega arith))
 
+pub any-or : (n : ℕ) (p q : ℕ → Bool) → any n (λ i. p i || q i) ≡ (any n p || any n q)
+any-or n p q = both-ways (any n (λ i. p i || q i)) (any n p || any n q) there back where
+  there : any n (λ i. p i || q i) ≡ true → (any n p || any n q) ≡ true
+  there h =
+      let (i, l, t) = any-found (λ i. p i || q i) n h in
+      ⊎-elim (λ u. or-left (any n p) (any n q) (any-hit p n i l u)) (λ u. or-right (any n p) (any n q) (any-hit q n i l u)) (or-cases (p i) (q i) t)
+
+  back : (any n p || any n q) ≡ true → any n (λ i. p i || q i) ≡ true
+  back h =
+      ⊎-elim (λ u. let (i, l, t) = any-found p n u in any-hit (λ i. p i || q i) n i l (or-left (p i) (q i) t))
+      (λ u. let (i, l, t) = any-found q n u in any-hit (λ i. p i || q i) n i l (or-right (p i) (q i) t))
+      (or-cases (any n p) (any n q) h)
+
 -- tests that two numbers differ
 pub differ : (a b : ℕ) → (a ≡ b → ⊥) → neqb a b ≡ true
 differ a b h = ap not (ne-eqb a b h)
 
 pub same : (a b : ℕ) → a ≡ b → neqb a b ≡ false
 same a b h = ap not (eq-eqb a b h)
+
+-- a number is above 0 exactly if it is not 0
+pub above-zero : (k : ℕ) → above k 0 ≡ neqb k 0
+above-zero k =
+    ⊎-elim (λ (h : 0 < k). lt-ltb 0 k h ∙ sym (differ k 0 (λ e. omega arith))) (λ (h : k ≤ 0). le-ltb 0 k h ∙ sym (same k 0 (omega arith))) (below-or-above 0 k)
+
+-- A scan: one loop over the numbers below m, left at the first that has p
+
+module _ (p : ℕ → Bool) where
+  -- none of the numbers passed has p
+  abbrev pub Scanned : ℕ → ℕ → Type 0
+  Scanned m i = (i ≤ m) × (any i p ≡ false)
+
+  pub scan-start : (m : ℕ) → Scanned m 0
+  unfolding any
+  scan-start m = (omega arith, refl)
+
+  pub scan-next : (m i : ℕ) → Scanned m i → i < m → p i ≡ false → Scanned m (i + 1)
+  scan-next m i s l e = (omega arith, any-step p i (s .1) e)
+
+  pub scan-found : (m i : ℕ) → i < m → p i ≡ true → true ≡ any m p
+  scan-found m i l e = sym (any-hit p m i l e)
+
+  pub scan-end : (m i : ℕ) → Scanned m i → m ≤ i → false ≡ any m p
+  scan-end m i s l = let e : i ≡ m = omega arith in sym (rw e at (s .1))

@@ -20,4 +20,5 @@ walk-tables-spec =
     (search needs)
     (search needs)
     (search needs)
+    (search needs)
     returns)

@@ -1,50 +1,26 @@
 -- The invariant: the words of the records passed are v.
-use mathlib.Core.Path.{_≡_, refl, sym}
-use mathlib.Core.Bool.{false}
-use Prim.Native.Nat.{_≤_, _-_, _+_}
+use Prim.Native.Nat.{_-_, _+_}
 use native.Mathlib.Omega.{arith}
-use Rattle.words.specs.Bounded.{any, neqb}
-use Rattle.words.proofs.Bounded.{any-hit, any-step, differ, same}
+use Rattle.words.specs.Bounded.{neqb}
+use Rattle.words.proofs.Bounded.{Scanned, scan-start, scan-next, scan-found, scan-end, differ, same}
 use Rattle.rules.specs.Store.{recordWord}
 use Rattle.ledger.proofs.scan.some_differs.Statement.{statement}
 use Rattle.ledger.proofs.scan.some_differs.Tie as tie
 
 abbrev Inv-loop : tie.InvT-loop
-Inv-loop ledger k b m v i₀ i = (i ≤ m) × (any i (λ j. neqb (recordWord ledger k (b + j)) v) ≡ false)
+Inv-loop ledger k b m v i₀ i = Scanned (λ j. neqb (recordWord ledger k (b + j)) v) m i
 
 abbrev μ-loop : tie.MeasureT-loop
 μ-loop ledger k b m v i₀ i = m - i
 
-loop-holds : tie.Need-loop-holds Inv-loop μ-loop
-unfolding any
-loop-holds c = (omega arith, refl)
-
 returns : tie.Need-returns Inv-loop μ-loop
-returns c =
-    let at = c .before .before .before .loop in
-    sym (any-hit _ _ (at .i) (omega arith) (differ _ _ (rw (c .before .record-word .ensures) at (c .if1 .taken))))
+returns c = scan-found _ _ (c .before .before .before .loop .i) (omega arith) (differ _ _ (rw (c .before .record-word .ensures) at (c .if1 .taken)))
 
 loop-again : tie.Need-loop-again Inv-loop μ-loop
-loop-again c =
-    let at = c .before .before .before .loop in
-    (omega arith, any-step _ (at .i) (at .inv .1) (same _ _ (rw (c .before .record-word .ensures) at (c .if1 .left))))
-
-returns-2 : tie.Need-returns-2 Inv-loop μ-loop
-returns-2 c =
-    let e : c .before .loop .i ≡ c .before .before .before .args .m = omega arith in
-    sym (rw e at (c .before .loop .inv .1))
+loop-again c = scan-next _ _ _ (c .before .before .before .loop .inv) (omega arith) (same _ _ (rw (c .before .record-word .ensures) at (c .if1 .left)))
 
 pub some-differs-spec : {M : Type 1} → statement M
 some-differs-spec =
     tie.close
-    (tie.spec
-    Inv-loop
-    μ-loop
-    loop-holds
-    (λ c. omega arith)
-    (λ c κs. omega arith)
-    returns
-    (λ c. omega arith)
-    (λ c. omega arith)
-    loop-again
-    returns-2)
+    (tie.spec Inv-loop μ-loop (λ c. scan-start _ _) (λ c. omega arith) (λ c κs. omega arith) returns (λ c. omega arith)
+    (λ c. omega arith) loop-again (λ c. scan-end _ _ _ (c .before .loop .inv) (omega arith)))

@@ -13,7 +13,8 @@ use Rattle.rules.specs.Link.{linkRefusals}
 use Rattle.rules.specs.Store.{Store, lent, base, misfit}
 use Rattle.rules.proofs.Refusals.{Passed, passed, now}
 use Rattle.ledger.proofs.Judge.{Decides, here, past, refused, accepted, judged, told}
-use Rattle.mapping.specs.Pieces.{placeRefusals, holderRefusals}
+use Rattle.ledger.specs.Pieces.{placeRefusals}
+use Rattle.mapping.specs.Pieces.{holderRefusals}
 use Rattle.mapping.specs.Slots.{InTable}
 use Rattle.mapping.proofs.Linking.{pieces, link-judged}
 use Rattle.mapping.proofs.link.link_refusal.Statement.{statement}

@@ -15,7 +15,7 @@ use Rattle.rules.specs.Store.{Store, lent, base, misfit}
 use Rattle.rules.proofs.Refusals.{Passed, passed, now}
 use Rattle.ledger.proofs.Judge.{Decides, here, past, refused, accepted, judged, told}
 use Rattle.mapping.specs.Forms.{formOf}
-use Rattle.mapping.specs.Pieces.{placeRefusals}
+use Rattle.ledger.specs.Pieces.{placeRefusals}
 use Rattle.mapping.specs.Slots.{InTable}
 use Rattle.mapping.proofs.Unmapping.{pieces, unmap-judged}
 use Rattle.mapping.proofs.unmap.unmap_refusal.Statement.{statement}

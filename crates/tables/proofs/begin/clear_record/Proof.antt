@@ -9,10 +9,5 @@ returns c = rw (c .before .before .before .before .before .before .put-record-wo
 pub clear-record-spec : {M : Type 1} → statement M
 clear-record-spec =
     tie.close
-    (tie.spec
-    (λ c κs. search needs)
-    (λ c κs. search needs)
-    (λ c κs. search needs)
-    (λ c κs. search needs)
-    (λ c. search needs)
-    returns)
+    (tie.spec (λ c κs. search needs) (λ c κs. search needs) (λ c κs. search needs) (λ c κs. search needs)
+    (λ c. search needs) returns)

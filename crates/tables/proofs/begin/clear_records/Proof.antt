@@ -34,13 +34,5 @@ returns c = let e : c .before .loop .b ≡ c .before .before .before .args .n = 
 pub clear-records-spec : {M : Type 1} → statement M
 clear-records-spec =
     tie.close
-    (tie.spec
-    Inv-loop
-    μ-loop
-    loop-holds
-    clear-record-requires
-    (λ c. omega arith)
-    (λ c. omega arith)
-    loop-again
-    same-length
-    returns)
+    (tie.spec Inv-loop μ-loop loop-holds clear-record-requires (λ c. omega arith) (λ c. omega arith) loop-again
+    same-length returns)

@@ -1,20 +1,20 @@
 -- The invariant: the ledger is recounted with the entries passed, and no counter has overrun.
-use Rattle.rules.specs.Store.{lent, base}
 use Rattle.words.proofs.Words.{Bytes}
 use mathlib.Core.Path.{_≡_, sym, _∙_, ap}
-use Prim.Native.Nat.{_≤_, _-_, _+_}
+use Prim.Native.Nat.{ℕ, _≤_, _-_, _+_}
 use native.Mathlib.Omega.{arith}
 use lib.ListN.{length}
+use Rattle.entries.specs.Entries.{Entry}
 use Rattle.entries.specs.Meaning.{levelOf}
 use Rattle.ledger.specs.Counters.{changeOf}
 use Rattle.ledger.proofs.Counting.{recounted-none}
 use Rattle.ledger.proofs.Judge.{told}
-use Rattle.rules.specs.General.{recounted}
-use Rattle.rules.specs.Store.{lent}
+use Rattle.rules.specs.General.{Change, recounted}
+use Rattle.rules.specs.Store.{Store, lent}
 use Rattle.rules.proofs.Changes.{length-recounted}
 use Rattle.rules.proofs.State.{fits}
 use Rattle.tables.specs.Counting.{Roomy}
-use Rattle.tables.specs.Entries.{entryFrom}
+use Rattle.validation.specs.Entries.{entryFrom}
 use Rattle.tables.proofs.Counting.{roomy-none, roomy-more, roomy-storable, step-fits, step-countable, step-counted}
 use Rattle.tables.proofs.count.count_until_stuck.Statement.{statement}
 use Rattle.tables.proofs.count.count_until_stuck.Tie as tie
@@ -25,8 +25,20 @@ Inv-loop change level memory ledger₀ j m i₀ ledger i = (i ≤ m) × (ledger 
 abbrev μ-loop : tie.MeasureT-loop
 μ-loop change level memory ledger₀ j m i₀ ledger i = m - i
 
+-- what is counted, by the arguments
+abbrev change : tie.Start Inv-loop μ-loop → Change
+change c = changeOf (c .args .change)
+
+abbrev store : tie.Start Inv-loop μ-loop → Store
+store c = lent (c .args .memory .now) (c .args .ledger .now)
+
+abbrev entry : tie.Start Inv-loop μ-loop → ℕ → Entry
+entry c = entryFrom (levelOf (c .args .level)) (c .args .memory .now) (c .args .j)
+
 loop-holds : tie.Need-loop-holds Inv-loop μ-loop
-loop-holds c = (omega arith, sym (recounted-none (changeOf (c .before .before .args .change)) (lent (c .before .before .args .memory .now) (c .before .before .args .ledger .now)) (entryFrom (levelOf (c .before .before .args .level)) (c .before .before .args .memory .now) (c .before .before .args .j)) (fits _ _ (c .before .before .pre .0) .ledger-length) (λ i. omega (arith, c .slice-known .given i))), roomy-none (changeOf (c .before .before .args .change)) (lent (c .before .before .args .memory .now) (c .before .before .args .ledger .now)) (entryFrom (levelOf (c .before .before .args .level)) (c .before .before .args .memory .now) (c .before .before .args .j)))
+loop-holds c =
+    let start = c .before .before in
+    (omega arith, sym (recounted-none (change start) (store start) (entry start) (fits _ _ (start .pre .0) .ledger-length) (λ i. omega (arith, c .slice-known .given i))), roomy-none (change start) (store start) (entry start))
 
 add-entry-at : tie.Need-add-entry-at Inv-loop μ-loop
 add-entry-at c = let h = c .before .before .before .before .pre .1 in omega arith
@@ -35,10 +47,15 @@ entry-at-requires : tie.Need-entry-at-requires Inv-loop μ-loop
 entry-at-requires c κs = let h = c .before .before .before .before .pre .1 in omega arith
 
 is-stuck-requires : tie.Need-is-stuck-requires Inv-loop μ-loop
-is-stuck-requires c κs = step-fits _ _ _ _ (c .before .before .before .before .before .before .pre .0) (c .before .before .before .before .before .before .pre .2) (c .before .before .before .loop .i) (omega arith) (c .before .before .before .loop .inv .1) (c .before .entry-at .ensures)
+is-stuck-requires c κs =
+    let pre = c .before .before .before .before .before .before .pre in
+    let at = c .before .before .before .loop in
+    step-fits _ _ _ _ (pre .0) (pre .2) (at .i) (omega arith) (at .inv .1) (c .before .entry-at .ensures)
 
 same-length : tie.Need-same-length Inv-loop μ-loop
-same-length c = ap length (c .before .before .before .before .before .loop .inv .1) ∙ length-recounted (changeOf (c .before .before .before .before .before .before .before .before .args .change)) (lent (c .before .before .before .before .before .before .before .before .args .memory .now) (c .before .before .before .before .before .before .before .before .args .ledger .now)) _ (entryFrom (levelOf (c .before .before .before .before .before .before .before .before .args .level)) (c .before .before .before .before .before .before .before .before .args .memory .now) (c .before .before .before .before .before .before .before .before .args .j))
+same-length c =
+    let start = c .before .before .before .before .before .before .before .before in
+    ap length (c .before .before .before .before .before .loop .inv .1) ∙ length-recounted (change start) (store start) _ (entry start)
 
 returns : tie.Need-returns Inv-loop μ-loop
 returns c =
@@ -47,33 +64,31 @@ returns c =
 
 change-entry-requires : tie.Need-change-entry-requires Inv-loop μ-loop
 change-entry-requires c κs =
+    let start = c .before .before .before .before .before .before .before .before .before in
+    let pre = start .pre in
     let at = c .before .before .before .before .before .before .loop in
-    let pre = c .before .before .before .before .before .before .before .before .before .pre in
-    let d = changeOf (c .before .before .before .before .before .before .before .before .before .args .change) in
-    let s = lent (c .before .before .before .before .before .before .before .before .before .args .memory .now) (c .before .before .before .before .before .before .before .before .before .args .ledger .now) in
-    let e = entryFrom (levelOf (c .before .before .before .before .before .before .before .before .before .args .level)) (c .before .before .before .before .before .before .before .before .before .args .memory .now) (c .before .before .before .before .before .before .before .before .before .args .j) in
-    let bytes : Bytes (s .ledger) = λ i. omega (arith, c .before .before .before .before .before .before .before .slice-known .given i) in
-    let fit = fits s (base s) (pre .0) .ledger-length in
+    let bytes : Bytes (store start .ledger) = λ i. omega (arith, c .before .before .before .before .before .before .before .slice-known .given i) in
+    let fit = fits _ _ (pre .0) .ledger-length in
     let free = told (rw (at .inv .1, c .before .before .before .before .entry-at .ensures) at (c .before .before .is-stuck .ensures)) (c .before .if1 .left) in
-    let more = roomy-more d s e fit bytes (at .i) (at .inv .2) free in
-    let ready = step-fits d s e _ (pre .0) (pre .2) (at .i) (omega arith) (at .inv .1) (c .before .before .before .before .entry-at .ensures) in
-    (ready .0, (ready .1, step-countable d s e _ (pre .0) (pre .2) (at .i) (omega arith) (at .inv .1) (c .before .before .before .before .entry-at .ensures) bytes (roomy-storable d s e fit bytes (at .i + 1) more)))
+    let more = roomy-more (change start) (store start) (entry start) fit bytes (at .i) (at .inv .2) free in
+    let ready = step-fits (change start) (store start) (entry start) _ (pre .0) (pre .2) (at .i) (omega arith) (at .inv .1) (c .before .before .before .before .entry-at .ensures) in
+    (ready .0, (ready .1, step-countable (change start) (store start) (entry start) _ (pre .0) (pre .2) (at .i) (omega arith) (at .inv .1) (c .before .before .before .before .entry-at .ensures) bytes (roomy-storable (change start) (store start) (entry start) fit bytes (at .i + 1) more)))
 
 loop-again : tie.Need-loop-again Inv-loop μ-loop
 loop-again c =
+    let start = c .before .before .before .before .before .before .before .before .before .before .before .before in
+    let pre = start .pre in
     let at = c .before .before .before .before .before .before .before .before .before .loop in
-    let pre = c .before .before .before .before .before .before .before .before .before .before .before .before .pre in
-    let d = changeOf (c .before .before .before .before .before .before .before .before .before .before .before .before .args .change) in
-    let s = lent (c .before .before .before .before .before .before .before .before .before .before .before .before .args .memory .now) (c .before .before .before .before .before .before .before .before .before .before .before .before .args .ledger .now) in
-    let e = entryFrom (levelOf (c .before .before .before .before .before .before .before .before .before .before .before .before .args .level)) (c .before .before .before .before .before .before .before .before .before .before .before .before .args .memory .now) (c .before .before .before .before .before .before .before .before .before .before .before .before .args .j) in
-    let bytes : Bytes (s .ledger) = λ i. omega (arith, c .before .before .before .before .before .before .before .before .before .before .slice-known .given i) in
-    let fit = fits s (base s) (pre .0) .ledger-length in
+    let bytes : Bytes (store start .ledger) = λ i. omega (arith, c .before .before .before .before .before .before .before .before .before .before .slice-known .given i) in
+    let fit = fits _ _ (pre .0) .ledger-length in
     let free = told (rw (at .inv .1, c .before .before .before .before .before .before .before .entry-at .ensures) at (c .before .before .before .before .before .is-stuck .ensures)) (c .before .before .before .before .if1 .left) in
-    let more = roomy-more d s e fit bytes (at .i) (at .inv .2) free in
-    (omega arith, step-counted d s e _ (pre .0) (pre .2) (at .i) (omega arith) (at .inv .1) (c .before .before .before .before .before .before .before .entry-at .ensures) bytes (roomy-storable d s e fit bytes (at .i + 1) more) (c .before .before .change-entry .ensures), more)
+    let more = roomy-more (change start) (store start) (entry start) fit bytes (at .i) (at .inv .2) free in
+    (omega arith, step-counted (change start) (store start) (entry start) _ (pre .0) (pre .2) (at .i) (omega arith) (at .inv .1) (c .before .before .before .before .before .before .before .entry-at .ensures) bytes (roomy-storable (change start) (store start) (entry start) fit bytes (at .i + 1) more) (c .before .before .change-entry .ensures), more)
 
 same-length-2 : tie.Need-same-length-2 Inv-loop μ-loop
-same-length-2 c = ap length (c .before .loop .inv .1) ∙ length-recounted (changeOf (c .before .before .before .before .args .change)) (lent (c .before .before .before .before .args .memory .now) (c .before .before .before .before .args .ledger .now)) _ (entryFrom (levelOf (c .before .before .before .before .args .level)) (c .before .before .before .before .args .memory .now) (c .before .before .before .before .args .j))
+same-length-2 c =
+    let start = c .before .before .before .before in
+    ap length (c .before .loop .inv .1) ∙ length-recounted (change start) (store start) _ (entry start)
 
 returns-2 : tie.Need-returns-2 Inv-loop μ-loop
 returns-2 c =
@@ -84,18 +99,5 @@ returns-2 c =
 pub count-until-stuck-spec : {M : Type 1} → statement M
 count-until-stuck-spec =
     tie.close
-    (tie.spec
-    Inv-loop
-    μ-loop
-    loop-holds
-    add-entry-at
-    entry-at-requires
-    is-stuck-requires
-    same-length
-    returns
-    change-entry-requires
-    (λ c. omega arith)
-    (λ c. omega arith)
-    loop-again
-    same-length-2
-    returns-2)
+    (tie.spec Inv-loop μ-loop loop-holds add-entry-at entry-at-requires is-stuck-requires same-length returns
+    change-entry-requires (λ c. omega arith) (λ c. omega arith) loop-again same-length-2 returns-2)

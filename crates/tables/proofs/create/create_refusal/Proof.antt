@@ -3,8 +3,8 @@ use mathlib.Core.List.{[], _∷_}
 use mathlib.Core.Path.{sym, _∙_}
 use native.Mathlib.Omega.{arith}
 use Rattle.rules.proofs.Refusals.{passed, now}
-use Rattle.ledger.proofs.Judge.{decides, here, past, refused, accepted, told}
-use Rattle.tables.proofs.Chains.{answered}
+use Rattle.rules.proofs.State.{fits, within}
+use Rattle.ledger.proofs.Judge.{decides, here, past, refused, accepted, judged, told}
 use borrow.Author.Needs.{needs}
 use Rattle.tables.proofs.create.create_refusal.Statement.{statement}
 use Rattle.tables.proofs.create.create_refusal.Tie as tie
@@ -27,23 +27,24 @@ is-counted-requires c κs = (told (c .before .before .before .before .before .is
 returns-4 : tie.Need-returns-4
 returns-4 c = decides (past (told (c .before .before .before .before .before .before .before .is-misfit-stored .ensures) (c .before .before .before .before .before .before .if1 .left)) (past (told (c .before .before .before .before .before .is-misfit-image .ensures) (c .before .before .before .before .if2 .left)) (accepted (passed _ (omega arith) (sym (c .before .before .before .table-refusal .ensures) ∙ c .before .before .if3 .left)) (here (told (c .before .is-counted .ensures) (c .if4 .taken))))))
 
-entries-refusal-requires : tie.Need-entries-refusal-requires
-entries-refusal-requires c κs = (told (c .before .before .before .before .before .before .before .is-misfit-stored .ensures) (c .before .before .before .before .before .before .if1 .left), now (passed _ (omega arith) (sym (c .before .before .before .table-refusal .ensures) ∙ c .before .before .if3 .left)))
+first-word-requires : tie.Need-first-word-requires
+first-word-requires c κs = (told (c .before .before .before .before .before .before .before .is-misfit-stored .ensures) (c .before .before .before .before .before .before .if1 .left), now (passed _ (omega arith) (sym (c .before .before .before .table-refusal .ensures) ∙ c .before .before .if3 .left)))
+
+new-entries-refusal-requires : tie.Need-new-entries-refusal-requires
+new-entries-refusal-requires c κs =
+    let lawful = told (c .before .before .before .before .before .before .before .before .before .is-misfit-stored .ensures) (c .before .before .before .before .before .before .before .before .if1 .left) in
+    let fit = fits _ _ lawful in
+    let inside = within _ _ _ _ (now (passed _ (omega arith) (sym (c .before .before .before .before .before .table-refusal .ensures) ∙ c .before .before .before .before .if3 .left))) in
+    (lawful, omega (arith, c .before .first-word .ensures, c .table-entries .ensures))
 
 returns-5 : tie.Need-returns-5
-returns-5 c = decides (past (told (c .before .before .before .before .before .before .before .before .is-misfit-stored .ensures) (c .before .before .before .before .before .before .before .if1 .left)) (past (told (c .before .before .before .before .before .before .is-misfit-image .ensures) (c .before .before .before .before .before .if2 .left)) (accepted (passed _ (omega arith) (sym (c .before .before .before .before .table-refusal .ensures) ∙ c .before .before .before .if3 .left)) (past (told (c .before .before .is-counted .ensures) (c .before .if4 .left)) (answered _ (c .entries-refusal .ensures))))))
+returns-5 c =
+    let entries-are = rw (c .before .before .first-word .ensures, c .before .table-entries .ensures) at (c .new-entries-refusal .ensures) in
+    decides (past (told (c .before .before .before .before .before .before .before .before .before .before .is-misfit-stored .ensures) (c .before .before .before .before .before .before .before .before .before .if1 .left)) (past (told (c .before .before .before .before .before .before .before .before .is-misfit-image .ensures) (c .before .before .before .before .before .before .before .if2 .left)) (accepted (passed _ (omega arith) (sym (c .before .before .before .before .before .before .table-refusal .ensures) ∙ c .before .before .before .before .before .if3 .left)) (past (told (c .before .before .before .before .is-counted .ensures) (c .before .before .before .if4 .left)) (judged _ entries-are)))))
 
 pub create-refusal-spec : {M : Type 1} → statement M
 create-refusal-spec =
     tie.close
-    (tie.spec
-    (λ c κs. search needs)
-    returns
-    (λ c κs. search needs)
-    returns-2
-    table-refusal-requires
-    returns-3
-    is-counted-requires
-    returns-4
-    entries-refusal-requires
-    returns-5)
+    (tie.spec (λ c κs. search needs) returns (λ c κs. search needs) returns-2 table-refusal-requires returns-3
+    is-counted-requires returns-4 first-word-requires (λ c κs. search needs) (λ c. search needs)
+    new-entries-refusal-requires returns-5)

@@ -1,22 +1,20 @@
 -- A refusal leaves the ledger; else 13 is decided by counting, and the ledger is the rules' or the old one.
-use mathlib.Core.List.{[], _∷_}
-use mathlib.Core.Path.{refl, sym, _∙_, ap}
+use mathlib.Core.Path.{sym, _∙_, ap}
 use native.Mathlib.Omega.{arith}
 use borrow.Author.Tests.{not-true, not-false}
-use Rattle.words.proofs.Bounded.{any-none}
 use Rattle.rules.specs.Free.{freeOutcome}
-use Rattle.rules.specs.Store.{Outcome, lent}
+use Rattle.rules.specs.Store.{lent}
 use Rattle.rules.proofs.Refusals.{passed, now, rest}
-use Rattle.ledger.proofs.Judge.{decides, none, here, past, refused, accepted, told, settle-answer, settle-refused, settle-accepted}
+use Rattle.ledger.proofs.Judge.{told}
+use Rattle.words.proofs.Bounded.{any-none}
+use Rattle.tables.proofs.Fronts.{refused-earlier, refused-last, accepted-last}
 use borrow.Author.Needs.{needs}
 use Rattle.tables.proofs.free.free.Statement.{statement}
 use Rattle.tables.proofs.free.free.Tie as tie
 
 returns : tie.Need-returns
 unfolding freeOutcome
-returns c =
-    let judged = decides (refused _ (_ ∷ []) (c .before .free-refusal .ensures) (c .if1 .taken)) in
-    (settle-answer _ _ _ judged, sym (ap (λ (o : Outcome). o .after) (settle-refused _ _ _ judged (c .if1 .taken))))
+returns c = refused-earlier _ _ _ (c .before .free-refusal .ensures) (c .if1 .taken)
 
 turn-table-requires : tie.Need-turn-table-requires
 turn-table-requires c κs =
@@ -28,26 +26,17 @@ turn-table-requires c κs =
 returns-2 : tie.Need-returns-2
 unfolding freeOutcome
 returns-2 c =
-    let fits-in = not-true _ (told (c .before .before .before .turn-table .ensures .0) (c .if2 .taken)) in
-    let judged = decides (accepted (passed _ (omega arith) (sym (c .before .before .before .before .before .before .free-refusal .ensures) ∙ c .before .before .before .before .before .if1 .left)) (past fits-in none)) in
-    (settle-answer _ _ _ judged, ap (lent _) (rw (c .if2 .taken) at (c .before .before .before .turn-table .ensures .1)) ∙ sym (ap (λ (o : Outcome). o .after) (settle-accepted _ _ _ judged refl)))
+    let counted = c .before .before .before .turn-table .ensures in
+    accepted-last _ _ _ (omega arith) (sym (c .before .before .before .before .before .before .free-refusal .ensures) ∙ c .before .before .before .before .before .if1 .left) (not-true _ (told (counted .0) (c .if2 .taken))) (ap (lent _) (rw (c .if2 .taken) at (counted .1)))
 
 returns-3 : tie.Need-returns-3
 unfolding freeOutcome
 returns-3 c =
-    let overrun = not-false _ (told (c .before .before .before .turn-table .ensures .0) (c .if2 .left)) in
-    let judged = decides (accepted (passed _ (omega arith) (sym (c .before .before .before .before .before .before .free-refusal .ensures) ∙ c .before .before .before .before .before .if1 .left)) (here overrun)) in
-    (settle-answer _ _ _ judged, ap (lent _) (rw (c .if2 .left) at (c .before .before .before .turn-table .ensures .1)) ∙ sym (ap (λ (o : Outcome). o .after) (settle-refused _ _ _ judged (λ e. omega arith))))
+    let counted = c .before .before .before .turn-table .ensures in
+    refused-last _ _ _ (omega arith) (sym (c .before .before .before .before .before .before .free-refusal .ensures) ∙ c .before .before .before .before .before .if1 .left) (not-false _ (told (counted .0) (c .if2 .left))) (λ e. omega arith) (ap (lent _) (rw (c .if2 .left) at (counted .1)))
 
 pub free-spec : {M : Type 1} → statement M
 free-spec =
     tie.close
-    (tie.spec
-    (λ c κs. search needs)
-    (λ c. search needs)
-    returns
-    turn-table-requires
-    (λ c. search needs)
-    returns-2
-    (λ c. search needs)
-    returns-3)
+    (tie.spec (λ c κs. search needs) (λ c. search needs) returns turn-table-requires (λ c. search needs) returns-2
+    (λ c. search needs) returns-3)

@@ -3,8 +3,8 @@ use mathlib.Core.List.{[], _∷_}
 use mathlib.Core.Path.{sym, _∙_}
 use native.Mathlib.Omega.{arith}
 use Rattle.rules.proofs.Refusals.{passed, now}
-use Rattle.ledger.proofs.Judge.{decides, here, past, refused, accepted, told}
-use Rattle.tables.proofs.Chains.{answered}
+use Rattle.rules.proofs.State.{fits, within}
+use Rattle.ledger.proofs.Judge.{decides, here, past, refused, accepted, judged, told}
 use borrow.Author.Needs.{needs}
 use Rattle.tables.proofs.free.free_refusal.Statement.{statement}
 use Rattle.tables.proofs.free.free_refusal.Tie as tie
@@ -24,22 +24,23 @@ is-in-use-requires c κs = (told (c .before .before .before .before .is-misfit-s
 returns-3 : tie.Need-returns-3
 returns-3 c = decides (past (told (c .before .before .before .before .before .before .is-misfit-stored .ensures) (c .before .before .before .before .before .if1 .left)) (accepted (passed _ (omega arith) (sym (rw (c .before .before .before .before .table-type .ensures) at (c .before .before .before .table-refusal .ensures)) ∙ c .before .before .if2 .left)) (here (told (c .before .is-in-use .ensures) (c .if3 .taken)))))
 
-entries-refusal-requires : tie.Need-entries-refusal-requires
-entries-refusal-requires c κs = (told (c .before .before .before .before .before .before .is-misfit-stored .ensures) (c .before .before .before .before .before .if1 .left), now (passed _ (omega arith) (sym (rw (c .before .before .before .before .table-type .ensures) at (c .before .before .before .table-refusal .ensures)) ∙ c .before .before .if2 .left)))
+first-word-requires : tie.Need-first-word-requires
+first-word-requires c κs = (told (c .before .before .before .before .before .before .is-misfit-stored .ensures) (c .before .before .before .before .before .if1 .left), now (passed _ (omega arith) (sym (rw (c .before .before .before .before .table-type .ensures) at (c .before .before .before .table-refusal .ensures)) ∙ c .before .before .if2 .left)))
+
+old-entries-refusal-requires : tie.Need-old-entries-refusal-requires
+old-entries-refusal-requires c κs =
+    let lawful = told (c .before .before .before .before .before .before .before .before .is-misfit-stored .ensures) (c .before .before .before .before .before .before .before .if1 .left) in
+    let fit = fits _ _ lawful in
+    let inside = within _ _ _ _ (now (passed _ (omega arith) (sym (rw (c .before .before .before .before .before .before .table-type .ensures) at (c .before .before .before .before .before .table-refusal .ensures)) ∙ c .before .before .before .before .if2 .left))) in
+    (lawful, omega (arith, c .before .first-word .ensures, c .table-entries .ensures))
 
 returns-4 : tie.Need-returns-4
-returns-4 c = decides (past (told (c .before .before .before .before .before .before .before .is-misfit-stored .ensures) (c .before .before .before .before .before .before .if1 .left)) (accepted (passed _ (omega arith) (sym (rw (c .before .before .before .before .before .table-type .ensures) at (c .before .before .before .before .table-refusal .ensures)) ∙ c .before .before .before .if2 .left)) (past (told (c .before .before .is-in-use .ensures) (c .before .if3 .left)) (answered _ (c .entries-refusal .ensures)))))
+returns-4 c =
+    let entries-are = rw (c .before .before .first-word .ensures, c .before .table-entries .ensures) at (c .old-entries-refusal .ensures) in
+    decides (past (told (c .before .before .before .before .before .before .before .before .before .is-misfit-stored .ensures) (c .before .before .before .before .before .before .before .before .if1 .left)) (accepted (passed _ (omega arith) (sym (rw (c .before .before .before .before .before .before .before .table-type .ensures) at (c .before .before .before .before .before .before .table-refusal .ensures)) ∙ c .before .before .before .before .before .if2 .left)) (past (told (c .before .before .before .before .is-in-use .ensures) (c .before .before .before .if3 .left)) (judged _ entries-are))))
 
 pub free-refusal-spec : {M : Type 1} → statement M
 free-refusal-spec =
     tie.close
-    (tie.spec
-    (λ c κs. search needs)
-    returns
-    (λ c κs. search needs)
-    table-refusal-requires
-    returns-2
-    is-in-use-requires
-    returns-3
-    entries-refusal-requires
-    returns-4)
+    (tie.spec (λ c κs. search needs) returns (λ c κs. search needs) table-refusal-requires returns-2 is-in-use-requires
+    returns-3 first-word-requires (λ c κs. search needs) (λ c. search needs) old-entries-refusal-requires returns-4)

@@ -44,15 +44,5 @@ returns-3 c =
 pub is-counted-spec : {M : Type 1} → statement M
 is-counted-spec =
     tie.close
-    (tie.spec
-    base-requires
-    sub-b
-    (λ c. search needs)
-    (λ c κs. search needs)
-    (λ c. search needs)
-    some-above-zero-requires
-    returns
-    some-above-zero-requires-2
-    returns-2
-    some-above-zero-requires-3
-    returns-3)
+    (tie.spec base-requires sub-b (λ c. search needs) (λ c κs. search needs) (λ c. search needs)
+    some-above-zero-requires returns some-above-zero-requires-2 returns-2 some-above-zero-requires-3 returns-3)

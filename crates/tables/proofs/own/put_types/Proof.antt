@@ -36,14 +36,5 @@ returns c = let e : c .before .loop .i ≡ c .before .before .before .args .m = 
 pub put-types-spec : {M : Type 1} → statement M
 put-types-spec =
     tie.close
-    (tie.spec
-    Inv-loop
-    μ-loop
-    loop-holds
-    add-put-record-word
-    put-record-word-requires
-    (λ c. omega arith)
-    (λ c. omega arith)
-    loop-again
-    same-length
-    returns)
+    (tie.spec Inv-loop μ-loop loop-holds add-put-record-word put-record-word-requires (λ c. omega arith)
+    (λ c. omega arith) loop-again same-length returns)

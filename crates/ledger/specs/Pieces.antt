@@ -1,0 +1,14 @@
+-- The pieces of the rules' lists of refusals that several calls share: where a table lies, and its type.
+use mathlib.Core.List.{List, [], _∷_}
+use Prim.Native.Nat.{ℕ}
+use Rattle.entries.specs.Entries.{Level}
+use Rattle.rules.specs.Refusals.{Refusal, _if_}
+use Rattle.rules.specs.Store.{Store}
+use Rattle.rules.specs.Tables.{tableBlocks}
+use Rattle.rules.specs.General.{tableOutside, misaligned, otherType}
+
+abbrev pub placeRefusals : Level → Store → ℕ → List Refusal
+placeRefusals v s p = 2 if tableOutside v s p ∷ 3 if misaligned p (tableBlocks v) ∷ []
+
+abbrev pub tableRefusals : Level → Store → ℕ → ℕ → List Refusal
+tableRefusals v s p t = 2 if tableOutside v s p ∷ 3 if misaligned p (tableBlocks v) ∷ 5 if otherType v s p t ∷ []

@@ -1,0 +1,28 @@
+-- The invariant: the entries passed are of accepted forms.
+use Prim.Native.Nat.{_-_}
+use native.Mathlib.Omega.{arith}
+use Rattle.words.proofs.Bounded.{Scanned, scan-start, scan-next, scan-found, scan-end}
+use Rattle.ledger.proofs.Judge.{told}
+use Rattle.entries.specs.Entries.{isUnaccepted}
+use Rattle.entries.specs.Meaning.{levelOf}
+use Rattle.validation.specs.Entries.{entryFrom}
+use Rattle.validation.proofs.scan.some_unaccepted.Statement.{statement}
+use Rattle.validation.proofs.scan.some_unaccepted.Tie as tie
+
+abbrev Inv-loop : tie.InvT-loop
+Inv-loop level memory j m i₀ i = Scanned (λ k. isUnaccepted (entryFrom (levelOf level) memory j k)) m i
+
+abbrev μ-loop : tie.MeasureT-loop
+μ-loop level memory j m i₀ i = m - i
+
+returns : tie.Need-returns Inv-loop μ-loop
+returns c = scan-found _ _ (c .before .before .before .before .loop .i) (omega arith) (told (rw (c .before .before .entry-at .ensures) at (c .before .is-unaccepted .ensures)) (c .if1 .taken))
+
+loop-again : tie.Need-loop-again Inv-loop μ-loop
+loop-again c = scan-next _ _ _ (c .before .before .before .before .loop .inv) (omega arith) (told (rw (c .before .before .entry-at .ensures) at (c .before .is-unaccepted .ensures)) (c .if1 .left))
+
+pub some-unaccepted-spec : {M : Type 1} → statement M
+some-unaccepted-spec =
+    tie.close
+    (tie.spec Inv-loop μ-loop (λ c. scan-start _ _) (λ c. omega arith) (λ c κs. omega arith) (λ c κs. omega arith)
+    returns (λ c. omega arith) (λ c. omega arith) loop-again (λ c. scan-end _ _ _ (c .before .loop .inv) (omega arith)))

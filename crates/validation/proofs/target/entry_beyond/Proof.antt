@@ -1,0 +1,24 @@
+-- One counter after the other.
+use Rattle.ledger.proofs.Judge.{told}
+use Rattle.validation.specs.Bounds.{entryBeyond}
+use Rattle.rules.specs.Store.{someCounter}
+use borrow.Author.Needs.{needs}
+use Rattle.validation.proofs.target.entry_beyond.Statement.{statement}
+use Rattle.validation.proofs.target.entry_beyond.Tie as tie
+
+returns : tie.Need-returns
+unfolding entryBeyond someCounter
+returns c = rw (told (c .before .counter-beyond .ensures) (c .if1 .taken))
+
+returns-2 : tie.Need-returns-2
+unfolding entryBeyond someCounter
+returns-2 c = rw (told (c .before .before .before .counter-beyond .ensures) (c .before .before .if1 .left), told (c .before .counter-beyond2 .ensures) (c .if2 .taken))
+
+returns-3 : tie.Need-returns-3
+unfolding entryBeyond someCounter
+returns-3 c = rw (told (c .before .before .before .before .counter-beyond .ensures) (c .before .before .before .if1 .left), told (c .before .before .counter-beyond2 .ensures) (c .before .if2 .left)) (c .counter-beyond3 .ensures)
+
+pub entry-beyond-spec : {M : Type 1} → statement M
+entry-beyond-spec =
+    tie.close
+    (tie.spec (λ c κs. search needs) returns (λ c κs. search needs) returns-2 (λ c κs. search needs) returns-3)

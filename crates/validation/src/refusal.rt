@@ -1,0 +1,63 @@
+// Refusals 8, 10, 11 and 12 of a table's m entries from word j of the memory on: each over all entries before the next.
+use crate::clash::some_clash;
+use crate::scan::some_astray;
+use crate::scan::some_misplaced;
+use crate::scan::some_unaccepted;
+use crate::unsigned::some_target_unsigned;
+use entries::entry::Level;
+use ledger::layout::base;
+use ledger::refusals::ACCEPTED;
+use ledger::refusals::CLASH;
+use ledger::refusals::UNFIT_TARGET;
+use ledger::refusals::UNSIGNED;
+use ledger::refusals::WRONG_ENTRY;
+use ledger::region::blocks;
+ghost use mathlib.Core.Path.{_≡_};
+ghost use Rattle.entries.specs.Meaning.{levelOf};
+ghost use Rattle.rules.specs.Refusals.{answerOf};
+ghost use Rattle.rules.specs.Store.{lent};
+ghost use Rattle.validation.specs.Entries.{HoldsWords, entryFrom};
+ghost use Rattle.validation.specs.Judged.{newEntries, oldEntries};
+ghost use Rattle.ledger.specs.Lent.{Fits};
+
+// The table is created at a block.
+pub fn new_entries_refusal(
+    level: Level,
+    memory: &[u8],
+    ledger: &[u8],
+    golden: &[u8],
+    block: u32,
+    j: usize,
+    m: usize,
+) -> u32
+    requires { ⌜ Fits (now memory) (now ledger) × HoldsWords (now memory) j m ⌝ }
+    ensures { λ r. ⌜ r ≡ answerOf (newEntries (levelOf level) (now (golden .entry)) (lent (now (memory .entry)) (now (ledger .entry))) block m (entryFrom (levelOf level) (now (memory .entry)) j)) ⌝ }
+{
+    if some_unaccepted(level, memory, j, m) {
+        return WRONG_ENTRY;
+    }
+    if some_misplaced(level, memory, ledger, block, j, m) {
+        return UNFIT_TARGET;
+    }
+    if some_clash(level, memory, ledger, j, m) {
+        return CLASH;
+    }
+    if some_target_unsigned(level, memory, ledger, golden, j, m) {
+        return UNSIGNED;
+    }
+    ACCEPTED
+}
+
+// The table is freed.
+pub fn old_entries_refusal(level: Level, memory: &[u8], ledger: &[u8], j: usize, m: usize) -> u32
+    requires { ⌜ Fits (now memory) (now ledger) × HoldsWords (now memory) j m ⌝ }
+    ensures { λ r. ⌜ r ≡ answerOf (oldEntries (lent (now (memory .entry)) (now (ledger .entry))) m (entryFrom (levelOf level) (now (memory .entry)) j)) ⌝ }
+{
+    if some_unaccepted(level, memory, j, m) {
+        return WRONG_ENTRY;
+    }
+    if some_astray(level, memory, j, m, base(ledger), blocks(memory)) {
+        return UNFIT_TARGET;
+    }
+    ACCEPTED
+}
