@@ -4,11 +4,13 @@ pub mod cases;
 pub mod compare;
 pub mod demand;
 pub mod faults;
+pub mod guarded;
 pub mod hasher;
 #[cfg(feature = "library")]
 pub mod library;
 pub mod lists;
 pub mod monitor;
+pub mod program;
 pub mod random;
 pub mod reference;
 pub mod sha256;
