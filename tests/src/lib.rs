@@ -13,6 +13,8 @@ pub mod monitor;
 pub mod program;
 pub mod random;
 pub mod reference;
+#[cfg(feature = "steps")]
+pub mod runner;
 pub mod sha256;
 #[cfg(feature = "signature")]
 pub mod signature;
