@@ -59,6 +59,7 @@ impl Lister {
         Lister::over(scene, random)
     }
 
+    /// Over a store that begin accepts.
     pub fn over(scene: Scene, random: Random) -> Lister {
         let plan = VecDeque::from([Call::new(Begin, &[scene.first])]);
         Lister { told: Told::new(scene.first, scene.blocks()), scene, random, plan }
