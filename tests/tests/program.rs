@@ -179,7 +179,7 @@ fn a_hundred_thousand_random_records() {
     }
 }
 
-/// About a second is wanted; the bound leaves room for a busy machine.
+/// A bound that no machine should come near, so that only a change in kind is red.
 #[test]
 fn a_million_records_take_seconds() {
     let turn = [
