@@ -59,7 +59,12 @@ Integrity h s = (p : ℕ) → InWorkingSet h s p → certified (h .golden) (h .B
 abbrev pub AltersWritableOnly : Told → Store → Store → Type 0
 AltersWritableOnly h s after = (b : ℕ) → b < blocks s → (contents (after .memory) b ≡ contents (s .memory) b) ⊎ Accessible h s write (h .B + b)
 
--- the guest alters no block of the working set: "ex ⇒ content(pb, σ) = content(pb, σ′)" (lemma 2; its other half is `KeepsTables`)
+-- the guest alters no block that an entry of any table, linked or not, makes executable: "ex ⇒ content(pb, σ) = content(pb, σ′)" (lemma 2;
+-- its first half, that the tables are as they were, is `KeepsTables`)
+abbrev pub KeepsExecutable : Told → Store → Store → Type 0
+KeepsExecutable h s after = (b : ℕ) → b < blocks s → 0 < counted h s executable b → contents (after .memory) b ≡ contents (s .memory) b
+
+-- so it alters no block of the working set
 abbrev pub KeepsWorkingSet : Told → Store → Store → Type 0
 KeepsWorkingSet h s after = (p : ℕ) → InWorkingSet h s p → contents (after .memory) (p - h .B) ≡ contents (s .memory) (p - h .B)
 
@@ -113,6 +118,7 @@ module _ (golden : List ℕ) (B : ℕ) (s : Store) (steps : List Step) where
     pub switches : Always SwitchesToTables
     -- what the guest's steps leave alone
     pub alters-writable : AtGuestSteps AltersWritableOnly
+    pub keeps-executable : AtGuestSteps KeepsExecutable
     pub keeps-working-set : AtGuestSteps KeepsWorkingSet
     pub keeps-walks : AtGuestSteps KeepsWalks
     -- what the guest executes
