@@ -4,7 +4,7 @@ use mathlib.Core.Bool.{true}
 use mathlib.Core.List.{List}
 use mathlib.Core.Logic.{_≢_, _⊎_, inl, inr, ⊎-elim}
 use mathlib.Core.Path.{_≡_, refl, sym, _∙_}
-use Prim.Native.Nat.{ℕ, _+_, _-_, _*_, _/_, _%_, _^_, _<_, _≤_}
+use Prim.Native.Nat.{ℕ, _+_, _-_, _*_, _/_, _%_, _^_, _<_}
 use native.Mathlib.Decide.{ℕ-discrete}
 use native.Mathlib.Omega.{arith}
 use lib.ListN.{set}
@@ -12,12 +12,12 @@ use Rattle.words.proofs.Lists.{getD-part}
 use Rattle.entries.specs.Entries.{Entry, Level, l1, l2, entryAt, rights}
 use Rattle.rules.specs.Refusals.{answerOf}
 use Rattle.rules.specs.Store.{blockBytes, blockWords, Store, blocks, base, Counter, writable, executable}
-use Rattle.rules.specs.Signature.{contents, certified}
+use Rattle.rules.specs.Signature.{contents}
 use Rattle.rules.specs.Tables.{typeD, code, Right, write, execute, allows, grants}
 use Rattle.rules.specs.Guest.{byteIndex, Access, reads, fetches, writes, needed, activeWalk, guestRefusals, written, byteGiven, guestAfter, guestOutcome}
 use Rattle.rules.specs.Steps.{Told}
 use Rattle.rules.specs.Demand3.{counted}
-use Rattle.rules.specs.Policies.{Accessible, Exclusive, InWorkingSet, Integrity, AltersWritableOnly, KeepsExecutable, KeepsWorkingSet, KeepsWalks, FetchedCode}
+use Rattle.rules.specs.Policies.{ActiveSwitchable, Accessible, Exclusive, InWorkingSet, Integrity, AltersWritableOnly, KeepsExecutable, KeepsWorkingSet, KeepsWalks, FetchedCode}
 use Rattle.rules.proofs.Memory.{contents-entry, contents-set}
 use Rattle.rules.proofs.State.{entryOf, Running, safe, settle-keeps, settle-accepted}
 use Rattle.rules.proofs.Walk.{Reached, walk-sensible, walk-same}
@@ -69,6 +69,9 @@ module _ {h : Told} {s : Store} (r : Running h s) where
       let x = executable-counted p as-code in
       rw (x .is) at (safe r .signs (x .block) (x .inside) (x .some-entry))
 
+  pub active : ActiveSwitchable h s
+  active p e = rw (r .told-base) (r .root p e)
+
   -- What a guest step does
 
   -- an accepted access is through the table of the last accepted switch
@@ -79,7 +82,7 @@ module _ {h : Told} {s : Store} (r : Running h s) where
         address = addr;
         level = t .level;
         rights = t .given;
-        switchable = rw (r .told-base) (r .root (t .table) (t .switched));
+        switchable = active (t .table) (t .switched);
         walked = rw (r .told-base) (rw (t .actives) at (t .walked));
         allowed = t .allowed;
       }
@@ -131,7 +134,7 @@ module _ {h : Told} {s : Store} (r : Running h s) where
 
   -- what is fetched is executed
   fetches-code : (addr : ℕ) → Arrived h s fetches addr → FetchedCode h s addr (byteGiven fetches (s .memory) (byteIndex (base s) addr (activeWalk s addr)))
-  unfolding byteGiven byteIndex needed certified
+  unfolding byteGiven byteIndex needed
   fetches-code addr t =
       let as-code = arrived-accessible fetches addr t in
       record {

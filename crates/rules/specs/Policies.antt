@@ -6,7 +6,6 @@ use mathlib.Core.Option.{some}
 use mathlib.Core.Path.{_≡_}
 use Prim.Native.Nat.{ℕ, suc, _+_, _-_, _*_, _%_, _≤_, _<_}
 use lib.ListN.{getD, getElem?}
-use Rattle.signature.specs.Signed.{signed}
 use Rattle.entries.specs.Entries.{page, Level, l1, l2, entryAt}
 use Rattle.rules.specs.Store.{blockBytes, blockWords, Store, blocks, writable, executable}
 use Rattle.rules.specs.Signature.{misfitImage, contents, certified}
@@ -27,6 +26,11 @@ pub record Root (B n : ℕ) (types : ℕ → ℕ) (p : ℕ) : Type 0 where
 -- a table to which the hardware could be switched: "the hypervisor allows to select only these memory areas to be used as page tables by the MMU" (section 2.1)
 abbrev pub Switchable : Told → Store → ℕ → Type 0
 Switchable h s p = Root (h .B) (blocks s) (h .types) p
+
+-- "the invariant constrains not only the page tables currently in use, but it constrains all potential page tables" (section 5): the table
+-- in use is one of them
+abbrev pub ActiveSwitchable : Told → Store → Type 0
+ActiveSwitchable h s = (p : ℕ) → h .table ≡ some p → Switchable h s p
 
 -- a switch is accepted to these tables, and to nothing else
 abbrev pub SwitchesToTables : Told → Store → Type 0
@@ -77,7 +81,7 @@ pub record FetchedCode (h : Told) (s : Store) (addr byte : ℕ) : Type 0 where
   pub block : ℕ
   pub executes : InWorkingSet h s block
   pub taken : byte ≡ getD (contents (s .memory) (block - h .B)) (addr % blockBytes) 0
-  pub signs : signed (contents (s .memory) (block - h .B)) (h .golden) ≡ true
+  pub signs : certified (h .golden) (h .B) (s .memory) block ≡ true
 
 -- entry i of the L2 block p maps block t, whose bytes are signed, to be read and written; no other entry makes block t writable (then
 -- none makes it executable), and none makes block p executable
@@ -114,7 +118,8 @@ module _ (golden : List ℕ) (B : ℕ) (s : Store) (steps : List Step) where
     -- W ⊕ X, and "no code injection can succeed" (proposition 3)
     pub exclusive : Always Exclusive
     pub integrity : Always Integrity
-    -- the tables over which these speak are those to which a switch would be accepted
+    -- the tables over which these speak: the one in use is among them, and a switch is accepted to them alone
+    pub active : Always ActiveSwitchable
     pub switches : Always SwitchesToTables
     -- what the guest's steps leave alone
     pub alters-writable : AtGuestSteps AltersWritableOnly
