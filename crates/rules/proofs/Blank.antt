@@ -26,13 +26,12 @@ use Rattle.rules.specs.Create.{someCount, misplaced, unfitLink, unfitWri
 use Rattle.rules.specs.Steps.{Step, creates, maps, obey, run, Told, begun, told, heard, history}
 use Rattle.rules.specs.Demand3.{storeAt, toldAt}
 use Rattle.rules.specs.Policies.{WritableByOneEntry, thereAndBack}
-use Rattle.rules.proofs.Refusals.{Passed, done, step, accepted, accepted-unless}
+use Rattle.rules.proofs.Refusals.{Passed, done, step, accepted}
 use Rattle.rules.proofs.Gains.{gives-fault, gain-none}
 use Rattle.rules.proofs.Ledger.{typed-in, typed-out}
 use Rattle.rules.proofs.State.{recorded, entryOf, Running, settle-accepted}
 use Rattle.rules.proofs.Starting.{begin-accepted}
-use Rattle.rules.proofs.Creating.{create-next}
-use Rattle.rules.proofs.Passing.{settle-answer, inside, no-misfit, right-type}
+use Rattle.rules.proofs.Passing.{settle-answer, Taken, taken, inside, no-misfit, right-type}
 use Rattle.rules.proofs.InTurn.{Alone, map-goes, of-alone}
 use Rattle.rules.proofs.Policies.{policies}
 use Rattle.rules.proofs.Runs.{answers-append}
@@ -86,12 +85,9 @@ module _ {h : Told} {s : Store} (r : Running h s) (blank : Blank (s .memory)) wh
         (step (any-avoids (λ i. misplaced v s p (entry i)) (entries v) (λ i _. rw (blank v _) refl))
         (step no-clash (step none-unsigned done)))))))))
 
-    pub create-accepted : createOutcome v (h .golden) s p .answer ≡ 0
-    unfolding createOutcome
-    create-accepted =
-        let k = answerOf (createRefusals v (h .golden) s p) in
-        let is = settle-answer k s (createAfter v s p) 0 in
-        is ∙ accepted-unless 13 _ create-passes (λ z. create-next v p r .not-13 (is ∙ z))
+    pub create-taken : Taken h s (creates v p) (createAfter v s p)
+    unfolding obey createOutcome
+    create-taken = taken r (creates v p) _ (createAfter v s p) refl create-passes
 
 -- A page mapped writable by one entry
 
@@ -102,34 +98,29 @@ tableAndPage p i t = creates l2 p ∷ maps pages p i t 3 ∷ []
 module _ {h : Told} {s : Store} (r : Running h s) (blank : Blank (s .memory)) (image : misfitImage (h .golden) ≡ false) (p i t : ℕ) (index : i < entries l2)
     (table-in : (h .B ≤ p) × (p < h .B + blocks s)) (page-in : (h .B ≤ t) × (t < h .B + blocks s)) (apart : p ≢ t)
     (table-free : h .types p ≡ typeD) (page-free : h .types t ≡ typeD) (signs : certified (h .golden) (h .B) (s .memory) t ≡ true) where
-  created : createOutcome l2 (h .golden) s p .answer ≡ 0
+  created : Taken h s (creates l2 p) (createAfter l2 s p)
   created =
       let based = r .told-base in
       let (low, high) = table-in in
-      create-accepted r blank l2 p image (omega arith) (omega arith) (mod-one p) (λ k l. let z : p + k ≡ p = omega arith in ap (h .types) z ∙ table-free)
+      create-taken r blank l2 p image (omega arith) (omega arith) (mod-one p) (λ k l. let z : p + k ≡ p = omega arith in ap (h .types) z ∙ table-free)
 
   abbrev typed : Told
   typed = told h (creates l2 p)
 
   abbrev tabled : Store
-  tabled = createOutcome l2 (h .golden) s p .after
+  tabled = obey (h .golden) s (creates l2 p) .after
 
   same-memory : tabled .memory ≡ s .memory
-  unfolding createOutcome
-  same-memory = ap (λ (x : Store). x .memory) (settle-accepted s (createAfter l2 s p) (answerOf (createRefusals l2 (h .golden) s p)) 0 created .1)
-
-  tabled-runs : Running typed tabled
-  unfolding heard
-  tabled-runs = rw created at (create-next l2 p r .runs)
+  same-memory = ap (λ (x : Store). x .memory) (created .leaves)
 
   tabled-alone : Alone (h .B) typed tabled p i t fault
   unfolding told num
   tabled-alone =
       let (low, high) = table-in in
       let (t-low, t-high) = page-in in
-      let based = tabled-runs .told-base in
+      let based = created .runs .told-base in
       let same = same-memory in
-      let none : (c : Counter) (b : ℕ) → b < blocks s → recorded tabled c b ≡ 0 = λ c b l. blank-uncounted tabled-runs (rw same-memory blank) c b (rw same-memory l) in
+      let none : (c : Counter) (b : ℕ) → b < blocks s → recorded tabled c b ≡ 0 = λ c b l. blank-uncounted (created .runs) (rw same-memory blank) c b (rw same-memory l) in
       record {
         table-low = low;
         table-high = rw same-memory high;
@@ -147,7 +138,7 @@ module _ {h : Told} {s : Store} (r : Running h s) (blank : Blank (s .memory)) (i
   -- both steps are accepted, and leave what is wanted
   mapped : (run (h .golden) s (tableAndPage p i t) .answers ≡ (0 ∷ 0 ∷ [])) × WritableByOneEntry typed (run (h .golden) s (tableAndPage p i t) .reached) p i t
   unfolding run obey told
-  mapped = let m = map-goes tabled-runs image readWrite tabled-alone in (rw (created, m .accepted) refl, of-alone (m .runs) (m .alone))
+  mapped = let m = map-goes (created .runs) image readWrite tabled-alone in (rw (created .accepted, m .accepted) refl, of-alone (m .runs) (m .alone))
 
 -- Eight blocks of zeros, and the digest of one of them as golden image
 
