@@ -38,7 +38,7 @@ use Rattle.rules.proofs.Runs.{answers-append}
 use Rattle.rules.proofs.SmallStores.{memory, length-memory, first-entry, rest-entry, ledger, lent, fit}
 
 -- every word is a fault, at either level
-abbrev Blank : List ℕ → Type 0
+abbrev pub Blank : List ℕ → Type 0
 Blank memory = (v : Level) (j : ℕ) → entryAt v memory j ≡ fault
 
 blank-typed : (memory : List ℕ) → Blank memory → (t j : ℕ) → typedEntry t memory j ≡ fault
@@ -142,31 +142,31 @@ module _ {h : Told} {s : Store} (r : Running h s) (blank : Blank (s .memory)) (i
 
 -- Eight blocks of zeros, and the digest of one of them as golden image
 
-signed-by-own-digest : (block : List ℕ) → signed block (sha256 block) ≡ true
+pub signed-by-own-digest : (block : List ℕ) → signed block (sha256 block) ≡ true
 unfolding signed listed agrees sha256 any
 signed-by-own-digest block =
     let d = sha256 block in
     rw (length-tabulate (digestByte (hash block)) 32) (ap not (any-avoids (λ j. neqb (getD d j 0) (getD d (digestBytes * 0 + j) 0)) digestBytes (λ j l. same (getD d j 0) (getD d (0 + j) 0) (ap (λ (k : ℕ). getD d k 0) (sym (zero-add j))))))
 
-lawful-digest : (block : List ℕ) → misfitImage (sha256 block) ≡ false
+pub lawful-digest : (block : List ℕ) → misfitImage (sha256 block) ≡ false
 unfolding misfitImage sha256
 lawful-digest block = rw (length-tabulate (digestByte (hash block)) 32) refl
 
 abbrev pub golden : List ℕ
 golden = sha256 (contents (memory 0) 5)
 
-begins-zeros : beginOutcome (lent 0 ledger) 0 .answer ≡ 0
+pub begins-zeros : beginOutcome (lent 0 ledger) 0 .answer ≡ 0
 unfolding beginOutcome
 begins-zeros = settle-answer _ _ _ _ ∙ accepted (step (fit 0 ledger refl) done)
 
 abbrev pub started : Store
 started = beginOutcome (lent 0 ledger) 0 .after
 
-started-memory : started .memory ≡ memory 0
+pub started-memory : started .memory ≡ memory 0
 unfolding beginOutcome
 started-memory = ap (λ (x : Store). x .memory) (settle-accepted (lent 0 ledger) (beginAfter (lent 0 ledger) 0) (answerOf (beginRefusals (lent 0 ledger) 0)) 0 begins-zeros .1)
 
-zeros-blank : Blank (memory 0)
+pub zeros-blank : Blank (memory 0)
 unfolding l1Entry l2Entry
 zeros-blank v j = go v (below-or-above 0 j) where
   go : (v : Level) → (0 < j) ⊎ (j ≤ 0) → entryAt v (memory 0) j ≡ fault
