@@ -2,73 +2,44 @@
 -- block, the table is linked to it, block 5 is mapped to be read and executed, and the hardware is switched to the table.
 use mathlib.Core.Bool.{false, not}
 use mathlib.Core.List.{List, [], _∷_}
-use mathlib.Core.Option.{Option, none, some}
+use mathlib.Core.Option.{none, some}
 use mathlib.Core.Path.{_≡_, refl, _∙_, ap}
-use Prim.Native.Nat.{ℕ, _+_, _-_, _%_, _<_, _≤_}
+use Prim.Native.Nat.{ℕ, _+_, _-_, _<_, _≤_}
 use native.Mathlib.Omega.{arith}
 use lib.ListN.{getD, getElem?, take}
 use borrow.Author.Tests.{le-ltb}
 use Rattle.words.specs.Bounded.{num}
 use Rattle.words.proofs.Bounded.{any-avoids, same}
-use Rattle.entries.specs.Entries.{Entry, fault, page, Level, l1, l2, entryAt, isFault, rights}
+use Rattle.entries.specs.Entries.{Entry, fault, page, l1, l2, entryAt, isFault, rights}
 use Rattle.entries.specs.Written.{wordOf, cacheable, readExecute}
 use Rattle.entries.proofs.Decoding.{entryAt-cong}
 use Rattle.rules.specs.Store.{Store, blocks, base, Counter, writable, executable, counter, typeOf, fill}
-use Rattle.rules.specs.Signature.{contents, certified}
 use Rattle.rules.specs.Tables.{typeD, code, tableBlocks, pages, wordIndex, tableEntry, gives, grants, allows}
 use Rattle.rules.specs.General.{added, endValue, entered}
 use Rattle.rules.specs.Link.{linkTo, linkRefusals, linkOutcome}
+use Rattle.rules.specs.Switch.{switchAfter}
 use Rattle.rules.specs.Guest.{ends, walk, fetches, needed}
-use Rattle.rules.specs.Steps.{Step, creates, maps, links, switches, accesses, obey, run, Told, typed, told, heard}
+use Rattle.rules.specs.Steps.{Step, creates, maps, links, switches, accesses, obey, run, typed, told}
 use Rattle.rules.specs.Demand3.{Fetched, storeAt, toldAt}
 use Rattle.rules.specs.Policies.{FetchedCode}
 use Rattle.rules.proofs.Refusals.{Passed, done, step}
 use Rattle.rules.proofs.Gains.{gain-none}
 use Rattle.rules.proofs.Ledger.{typed-in, typed-out}
 use Rattle.rules.proofs.Memory.{length-fill, contents-fill, certified-same, entryAt-fill-other}
-use Rattle.rules.proofs.State.{recorded, type-told, Running, settle-accepted}
-use Rattle.rules.proofs.Demand3.{step-next, demand3}
-use Rattle.rules.proofs.Policies.{policies}
-use Rattle.rules.specs.Refusals.{answerOf}
-use Rattle.rules.specs.Switch.{switchRefusals, switchAfter, switchOutcome}
+use Rattle.rules.proofs.State.{recorded, type-told}
 use Rattle.rules.proofs.Changes.{end, counter-recounted}
-use Rattle.rules.proofs.Accepted.{map-enters, page-grants, link-enters}
-use Rattle.rules.proofs.Passing.{Taken, taken, no-misfit, inside, right-type, switch-accepted, access-accepted}
-use Rattle.rules.proofs.Starting.{begin-accepted}
+use Rattle.rules.proofs.Demand3.{demand3}
+use Rattle.rules.proofs.Passing.{Taken, taken, no-misfit, inside, right-type, switch-taken, access-accepted}
 use Rattle.rules.proofs.InTurn.{Alone, Went, map-goes}
-use Rattle.rules.proofs.SmallStores.{memory, length-memory, ledger, lent}
-use Rattle.rules.proofs.Blank.{Blank, blank-uncounted, create-taken, signed-by-own-digest, lawful-digest, golden, begins-zeros, started, started-memory, zeros-blank}
+use Rattle.rules.proofs.Policies.{policies}
+use Rattle.rules.proofs.Accepted.{map-enters, page-grants, link-enters}
+use Rattle.rules.proofs.SmallStores.{ledger, lent}
+use Rattle.rules.proofs.Blank.{golden, lawful, page-signed, begins-zeros, started, toldOf, Zeros, zeros-started, blank, eight, uncounted, create-zeros}
 
 abbrev pub toFetch : List Step
 toFetch = creates l1 0 ∷ creates l2 4 ∷ links 0 0 4 0 ∷ maps pages 4 0 5 5 ∷ switches 0 ∷ accesses fetches 0 ∷ []
 
--- what has been told, with these types and this table in use
-abbrev toldOf : (ℕ → ℕ) → Option ℕ → Told
-toldOf types table = record { B = 0; types = types; table = table; golden = golden }
-
--- Two tables in a memory of zeros
-
-record Zeros (types : ℕ → ℕ) (s : Store) : Type 0 where
-  runs : Running (toldOf types none) s
-  zeros : s .memory ≡ memory 0
-
-module _ {types : ℕ → ℕ} {s : Store} (z : Zeros types s) where
-  blank : Blank (s .memory)
-  blank = rw (z .zeros) zeros-blank
-
-  eight : blocks s ≡ 8
-  eight = rw (z .zeros, length-memory 0) refl
-
-  create-zeros : (v : Level) (p : ℕ) → p + tableBlocks v ≤ 8 → p % tableBlocks v ≡ 0 → ((k : ℕ) → k < tableBlocks v → types (p + k) ≡ typeD)
-      → (obey golden s (creates v p) .answer ≡ 0) × Zeros (typed types p (tableBlocks v) (code v)) (obey golden s (creates v p) .after)
-  unfolding told
-  create-zeros v p high aligned free =
-      let based = z .runs .told-base in
-      let c = create-taken (z .runs) blank v p (lawful-digest (contents (memory 0) 5)) (omega arith) (omega (arith, eight)) aligned free in
-      (c .accepted, record { runs = c .runs; zeros = ap (λ (x : Store). x .memory) (c .leaves) ∙ z .zeros })
-
--- a link between them
-
+-- the types once there are an L1 table and an L2 block
 abbrev withL1 : ℕ → ℕ
 withL1 = typed (λ b. typeD) 0 (tableBlocks l1) (code l1)
 
@@ -85,7 +56,7 @@ module _ {s : Store} (z : Zeros withBoth s) where
       let based = z .runs .told-base in
       let n = eight z in
       step (no-misfit (z .runs)) (step (inside (base s) (blocks s) 0 4 (omega arith) (omega arith)) (step refl (step refl (step refl (step (right-type (z .runs) l1 0 (code l1) (omega arith) (omega arith) is-L1)
-      (step (le-ltb 0 (counter executable s 0) (omega (arith, blank-uncounted (z .runs) (blank z) executable (0 - base s) (omega arith))))
+      (step (le-ltb 0 (counter executable s 0) (omega (arith, uncounted z executable (0 - base s) (omega arith))))
       (step (any-avoids (λ k. not (isFault (tableEntry l1 s 0 (0 + k)))) 1 (λ k l. rw (blank z l1 _) refl))
       (step (inside (base s) (blocks s) 4 1 (omega arith) (omega arith)) (step (same (typeOf s 4) (code l2) (type-told (z .runs) 4 (omega arith) (omega arith) ∙ refl)) done)))))))))
 
@@ -102,12 +73,12 @@ module _ {s : Store} (z : Zeros withBoth s) where
   linked-uncounted c spares b l =
       let x : ℕ → Entry = λ k. linkTo 4 0 in
       let inside : b < blocks s = omega (arith, eight z) in
-      let zero : end added s 1 x c b ≡ 0 = rw (blank-uncounted (z .runs) (blank z) c b inside, gain-none 1 x c (base s + b) (λ k _. spares (base s + b))) refl in
+      let zero : end added s 1 x c b ≡ 0 = rw (uncounted z c b l, gain-none 1 x c (base s + b) (λ k _. spares (base s + b))) refl in
       rw (link-taken .leaves) (counter-recounted added s 1 x (z .runs .fit .ledger-length) c b inside (omega (arith, zero)) ∙ zero)
 
   -- and it stands outside blocks 4 and 5
   linked-alone : Alone 0 (toldOf withBoth none) linked 4 0 5 fault
-  unfolding typed gives grants allows rights certified num
+  unfolding typed gives grants allows rights num
   linked-alone =
       let a = wordIndex s 0 0 in
       let w = wordOf cacheable (linkTo 4 0) in
@@ -121,7 +92,7 @@ module _ {s : Store} (z : Zeros withBoth s) where
         low = omega arith;
         high = omega arith;
         free = refl;
-        signs = rw (link-taken .leaves) (certified-same golden 0 (fill (s .memory) a 1 w) (s .memory) 5 (contents-fill (s .memory) a 1 w 5 (λ k. omega arith)) ∙ rw (z .zeros) (signed-by-own-digest (contents (memory 0) 5)));
+        signs = rw (link-taken .leaves) (certified-same golden 0 (fill (s .memory) a 1 w) (s .memory) 5 (contents-fill (s .memory) a 1 w 5 (λ k. omega arith)) ∙ rw (z .zeros) page-signed);
         holds = rw (link-taken .leaves) (entryAt-fill-other l2 (s .memory) a 1 w 4096 (λ l. omega arith) ∙ blank z l2 4096);
         only = rw (linked-uncounted writable (λ q. refl) 5 (omega arith), linked-uncounted executable (λ q. refl) 5 (omega arith)) refl;
         holder-unexecuted = linked-uncounted executable (λ q. refl) 4 (omega arith);
@@ -129,7 +100,7 @@ module _ {s : Store} (z : Zeros withBoth s) where
 
   mapped : Went (toldOf withBoth none) linked (maps pages 4 0 5 5) 4 0 5 (page 5 5)
   unfolding told
-  mapped = map-goes (link-taken .runs) (lawful-digest (contents (memory 0) 5)) readExecute linked-alone
+  mapped = map-goes (link-taken .runs) lawful readExecute linked-alone
 
   abbrev ready : Store
   ready = obey golden linked (maps pages 4 0 5 5) .after
@@ -147,34 +118,24 @@ module _ {s : Store} (z : Zeros withBoth s) where
       let through = still ∙ ap (entryAt l1 (linked .memory)) at ∙ link-enters s 0 0 4 0 (link-taken .accepted) .decodes in
       rw (enters .same-length) (rw (← linked-based) at (page-grants golden linked 4 0 5 5 (mapped .accepted) 0 0 through refl))
 
-  switch-taken : obey golden ready (switches 0) .answer ≡ 0
-  unfolding obey
-  switch-taken = switch-accepted (mapped .runs) 0 .1 (record { low = omega arith; high = omega (arith, mapped .alone .high); aligned = refl; typed = is-L1 })
+  switched : Taken (toldOf withBoth none) ready (switches 0) (switchAfter ready 0)
+  switched = switch-taken (mapped .runs) 0 (record { low = omega arith; high = omega (arith, mapped .alone .high); aligned = refl; typed = is-L1 })
 
-  abbrev switched : Store
-  switched = obey golden ready (switches 0) .after
-
-  fetch-taken : obey golden switched (accesses fetches 0) .answer ≡ 0
-  unfolding obey switchOutcome heard told allows needed
-  fetch-taken =
-      let r : Running (toldOf withBoth (some 0)) switched = rw switch-taken at (step-next (mapped .runs) (switches 0) .runs) in
-      let (_, after-is, _) = settle-accepted ready (switchAfter ready 0) (answerOf (switchRefusals ready 0)) 0 switch-taken in
-      let walked : walk 0 (blocks switched) (switched .memory) 0 0 ≡ ends l2 5 5 = rw after-is leads in
-      access-accepted r fetches 0 refl walked refl
-
--- The list
-
-zeros-started : Zeros (λ b. typeD) started
-zeros-started = record { runs = begin-accepted (lent 0 ledger) 0 golden begins-zeros; zeros = started-memory }
+  fetched : obey golden (obey golden ready (switches 0) .after) (accesses fetches 0) .answer ≡ 0
+  unfolding obey told allows needed
+  fetched =
+      let after = obey golden ready (switches 0) .after in
+      let walked : walk 0 (blocks after) (after .memory) 0 0 ≡ ends l2 5 5 = rw (switched .leaves) leads in
+      access-accepted (switched .runs) fetches 0 refl walked refl
 
 pub fetch-accepted : run golden started toFetch .answers ≡ (0 ∷ 0 ∷ 0 ∷ 0 ∷ 0 ∷ 0 ∷ [])
 unfolding run typed
 fetch-accepted =
-    let (first, with-l1) = create-zeros zeros-started l1 0 (omega arith) refl (λ k l. refl) in
-    let (second, z) = create-zeros with-l1 l2 4 (omega arith) refl (λ k l. let is : k ≡ 0 = omega arith in rw is refl) in
-    rw (first, second, link-taken z .accepted, mapped z .accepted, switch-taken z, fetch-taken z) refl
+    let (table, one) = create-zeros zeros-started l1 0 (omega arith) refl (λ k l. refl) in
+    let (block, z) = create-zeros one l2 4 (omega arith) refl (λ k l. let is : k ≡ 0 = omega arith in rw is refl) in
+    rw (table, block, link-taken z .accepted, mapped z .accepted, switched z .accepted, fetched z) refl
 
--- so a byte is fetched, as demand 3 says, and the working set has a block
+-- so what demand 3 and the policies say of a fetch is said of this one, and the working set has a block
 abbrev byte : ℕ
 byte = getD (run golden started toFetch .bytes) 5 0
 

@@ -18,7 +18,7 @@ use Rattle.rules.specs.Tables.{code, tableBlocks, allows}
 use Rattle.rules.specs.General.{otherType}
 use Rattle.rules.specs.Switch.{switchRefusals, switchAfter, switchOutcome}
 use Rattle.rules.specs.Guest.{ends, walk, Access, needed, walkRefusals, noActiveTable, activeWalk, guestRefusals, guestAfter, guestOutcome}
-use Rattle.rules.specs.Steps.{Step, obey, Told, told, heard}
+use Rattle.rules.specs.Steps.{Step, switches, obey, Told, told, heard}
 use Rattle.rules.specs.Policies.{Switchable, SwitchesToTables}
 use Rattle.rules.proofs.Refusals.{Passed, done, step, passed, accepted, accepted-unless}
 use Rattle.rules.proofs.State.{activeWord, Running, type-told, settle-accepted}
@@ -36,20 +36,23 @@ pub record Taken (h : Told) (s : Store) (call : Step) (after : Store) : Type 0 w
   pub leaves : obey (h .golden) s call .after ≡ after
   pub runs : Running (told h call) (obey (h .golden) s call .after)
 
--- a call whose last refusal is 13, which never arises, and of which the others hold nothing against it
+took : {h : Told} {s : Store} → Running h s → (call : Step) (k : ℕ) (after : Store) → obey (h .golden) s call ≡ settle k s after 0 → obey (h .golden) s call .answer ≡ 0
+    → Taken h s call after
+unfolding heard
+took {h} {s} r call k after is zero-is =
+    record {
+      accepted = zero-is;
+      leaves = ap (λ (o : Outcome). o .after) is ∙ settle-accepted s after k 0 (sym (ap (λ (o : Outcome). o .answer) is) ∙ zero-is) .1;
+      runs = rw zero-is at (step-next r call .runs);
+    }
+
+-- a call passes every test but that of its last refusal, 13, which never arises
 pub taken : {h : Told} {s : Store} → Running h s → (call : Step) {before : List Refusal} (last : Bool) (after : Store)
     → obey (h .golden) s call ≡ settle (answerOf (before ++ (13 if last ∷ []))) s after 0 → Passed before → Taken h s call after
-unfolding heard
 taken {h} {s} r call {before} last after is passes =
-    let n = step-next r call in
     let k = answerOf (before ++ (13 if last ∷ [])) in
     let answer-is : obey (h .golden) s call .answer ≡ k = ap (λ (o : Outcome). o .answer) is ∙ settle-answer k s after 0 in
-    let accepted : obey (h .golden) s call .answer ≡ 0 = answer-is ∙ accepted-unless 13 last passes (λ z. n .not-13 (answer-is ∙ z)) in
-    record {
-      accepted = accepted;
-      leaves = ap (λ (o : Outcome). o .after) is ∙ settle-accepted s after k 0 (sym (ap (λ (o : Outcome). o .answer) is) ∙ accepted) .1;
-      runs = rw accepted at (n .runs);
-    }
+    took r call k after is (answer-is ∙ accepted-unless 13 last passes (λ z. step-next r call .not-13 (answer-is ∙ z)))
 
 -- 2 does not apply
 pub inside : (B n p m : ℕ) → B ≤ p → p + m ≤ B + n → outside B n p m ≡ false
@@ -98,6 +101,10 @@ module _ {h : Told} {s : Store} (r : Running h s) where
         let high : p + tableBlocks l1 ≤ base s + blocks s = rw (r .told-base) at (table .high) in
         settle-answer (answerOf (switchRefusals s p)) s (switchAfter s p) 0
         ∙ accepted (step no-misfit (step (inside (base s) (blocks s) p (tableBlocks l1) low high) (step (same (p % tableBlocks l1) 0 (table .aligned)) (step (right-type l1 p (code l1) low high (table .typed)) done))))
+
+  pub switch-taken : (p : ℕ) → Switchable h s p → Taken h s (switches p) (switchAfter s p)
+  unfolding obey switchOutcome
+  switch-taken p table = took r (switches p) (answerOf (switchRefusals s p)) (switchAfter s p) refl (switch-accepted p .1 table)
 
   -- the table in use leads to a block with the right that the access needs
   pub access-accepted : (a : Access) (addr : ℕ) {table : ℕ} {v : Level} {p q : ℕ} → h .table ≡ some table → walk (h .B) (blocks s) (s .memory) table addr ≡ ends v p q
