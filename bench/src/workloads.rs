@@ -1,5 +1,6 @@
 //! What is measured: a prepared memory and ledger, and a batch of calls of one kind, all with the same answer.
 use crate::program::{Buffers, Kind, Plain, Program};
+use crate::random::Random;
 use crate::sha256::sha256;
 use Kind::*;
 
@@ -114,6 +115,16 @@ impl Scene {
         }
     }
 
+    /// Pages of all memory kinds that give nothing, read, or read and write, in no order.
+    fn written_mixed_pages(&mut self) {
+        let mut random = Random(1);
+        for i in 0..1024 {
+            let access = random.one_of(&[0x013, 0x023, 0x033, 0x213, 0x223, 0x233]);
+            let kind = random.next() as u32 & 0x1CC;
+            self.put_entry(L2_BLOCK, i, self.data(i) << 12 | kind | access);
+        }
+    }
+
     fn written_sections_and_links(&mut self) {
         self.accepted(CreateL2, &[[L2_BLOCK, 0, 0, 0]]);
         for i in 0..16 {
@@ -160,7 +171,7 @@ const fn workload(name: &'static str, least: usize, make: fn(&mut Scene) -> Batc
 }
 
 /// Calls that hash nothing.
-pub static CALLS: [Workload; 29] = [
+pub static CALLS: [Workload; 30] = [
     workload("begin", 64, |_| accepted(Begin, vec![[FIRST, 0, 0, 0]; 64])),
     workload("create L1, empty", 64, |_| accepted(CreateL1, vec![[L1_TABLE, 0, 0, 0]])),
     workload("create L1, 16 sections, 64 links", 512, |scene| {
@@ -170,6 +181,10 @@ pub static CALLS: [Workload; 29] = [
     workload("create L2, empty", 64, |_| accepted(CreateL2, vec![[L2_BLOCK, 0, 0, 0]])),
     workload("create L2, 1,024 writable pages", 64, |scene| {
         scene.written_pages();
+        accepted(CreateL2, vec![[L2_BLOCK, 0, 0, 0]])
+    }),
+    workload("create L2, 1,024 mixed pages", 64, |scene| {
+        scene.written_mixed_pages();
         accepted(CreateL2, vec![[L2_BLOCK, 0, 0, 0]])
     }),
     workload("free L1, empty", 64, |scene| {
