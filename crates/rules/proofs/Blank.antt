@@ -20,10 +20,10 @@ use Rattle.entries.specs.Written.{readWrite}
 use Rattle.rules.specs.Refusals.{answerOf}
 use Rattle.rules.specs.Store.{blockWords, Store, blocks, base, Counter, writable, executable, linked, counter, someCounter, someBlock, someRegionBlock}
 use Rattle.rules.specs.Signature.{misfitImage, contents, certified}
-use Rattle.rules.specs.Tables.{typeD, code, tableBlocks, entries, pages, typedEntry, tableEntry, allows, grants, gain, astray}
+use Rattle.rules.specs.Tables.{typeD, typeCode, tableBlocks, entries, pages, typedEntry, tableEntry, allows, grants, gain, astray}
 use Rattle.rules.specs.Begin.{beginRefusals, beginAfter, beginOutcome}
 use Rattle.rules.specs.Create.{someCount, misplaced, unfitLink, unfitWrite, clash, clashes, unsigned, createRefusals, createOutcome, createAfter}
-use Rattle.rules.specs.Steps.{Step, creates, maps, obey, run, Told, begun, told, heard, history}
+use Rattle.rules.specs.Steps.{Step, creates, maps, obey, run, Told, begun, afterAccepted, afterAnswer, history}
 use Rattle.rules.specs.Demand3.{storeAt, toldAt}
 use Rattle.rules.specs.Policies.{WritableByOneEntry, thereAndBack}
 use Rattle.rules.proofs.Refusals.{Passed, done, step, accepted, accepted-unless}
@@ -44,7 +44,7 @@ Blank memory = (v : Level) (j : ℕ) → entryAt v memory j ≡ fault
 
 blank-typed : (memory : List ℕ) → Blank memory → (t j : ℕ) → typedEntry t memory j ≡ fault
 unfolding typedEntry
-blank-typed memory blank t j = rw (blank l1 j, blank l2 j) (either (eqb t (code l1)) (eqb t (code l2))) where
+blank-typed memory blank t j = rw (blank l1 j, blank l2 j) (either (eqb t (typeCode l1)) (eqb t (typeCode l2))) where
   either : (a b : Bool) → cond a fault (cond b fault fault) ≡ fault
   either true b = refl
   either false true = refl
@@ -109,7 +109,7 @@ module _ {h : Told} {s : Store} (r : Running h s) (blank : Blank (s .memory)) (i
       create-accepted r blank l2 p image (omega arith) (omega arith) (mod-one p) (λ k l. let z : p + k ≡ p = omega arith in ap (h .types) z ∙ table-free)
 
   abbrev typed : Told
-  typed = told h (creates l2 p)
+  typed = afterAccepted h (creates l2 p)
 
   abbrev tabled : Store
   tabled = createOutcome l2 (h .golden) s p .after
@@ -119,11 +119,11 @@ module _ {h : Told} {s : Store} (r : Running h s) (blank : Blank (s .memory)) (i
   same-memory = ap (λ (x : Store). x .memory) (settle-accepted s (createAfter l2 s p) (answerOf (createRefusals l2 (h .golden) s p)) 0 created .1)
 
   tabled-runs : Running typed tabled
-  unfolding heard
+  unfolding afterAnswer
   tabled-runs = rw created at (create-next l2 p r .runs)
 
   tabled-alone : Alone (h .B) typed tabled p i t fault
-  unfolding told num
+  unfolding afterAccepted num
   tabled-alone =
       let (low, high) = table-in in
       let (t-low, t-high) = page-in in
@@ -133,11 +133,11 @@ module _ {h : Told} {s : Store} (r : Running h s) (blank : Blank (s .memory)) (i
       record {
         table-low = low;
         table-high = rw same-memory high;
-        table = typed-in (h .types) p 1 (code l2) p (omega arith) (omega arith);
+        table = typed-in (h .types) p 1 (typeCode l2) p (omega arith) (omega arith);
         index = index;
         low = t-low;
         high = rw same-memory t-high;
-        free = typed-out (h .types) p 1 (code l2) t (λ l. omega arith) ∙ page-free;
+        free = typed-out (h .types) p 1 (typeCode l2) t (λ l. omega arith) ∙ page-free;
         signs = rw same-memory signs;
         holds = rw same-memory (blank l2 (blockWords * (p - h .B) + i));
         only = rw (gives-fault writable t, gives-fault executable t) (omega (arith, none writable (t - h .B) (omega arith), none executable (t - h .B) (omega arith)));
@@ -146,7 +146,7 @@ module _ {h : Told} {s : Store} (r : Running h s) (blank : Blank (s .memory)) (i
 
   -- both steps are accepted, and leave what is wanted
   mapped : (run (h .golden) s (tableAndPage p i t) .answers ≡ (0 ∷ 0 ∷ [])) × WritableByOneEntry typed (run (h .golden) s (tableAndPage p i t) .reached) p i t
-  unfolding run obey told
+  unfolding run obey afterAccepted
   mapped = let m = map-goes tabled-runs image readWrite tabled-alone in (rw (created, m .accepted) refl, of-alone (m .runs) (m .alone))
 
 -- Eight blocks of zeros, and the digest of one of them as golden image
@@ -183,7 +183,7 @@ zeros-blank v j = go v (below-or-above 0 j) where
   go l1 (inr h) = let z : j ≡ 0 = omega arith in rw z (first-entry 0 (omega arith) .0)
   go l2 (inr h) = let z : j ≡ 0 = omega arith in rw z (first-entry 0 (omega arith) .1)
 
-two-steps : (run golden started (tableAndPage 0 0 5) .answers ≡ (0 ∷ 0 ∷ [])) × WritableByOneEntry (told (begun 0 golden) (creates l2 0)) (run golden started (tableAndPage 0 0 5) .reached) 0 0 5
+two-steps : (run golden started (tableAndPage 0 0 5) .answers ≡ (0 ∷ 0 ∷ [])) × WritableByOneEntry (afterAccepted (begun 0 golden) (creates l2 0)) (run golden started (tableAndPage 0 0 5) .reached) 0 0 5
 unfolding certified
 two-steps =
     mapped (begin-accepted (lent 0 ledger) 0 golden begins-zeros) (rw started-memory zeros-blank) (lawful-digest (contents (memory 0) 5)) 0 0 5 (omega arith)
@@ -192,7 +192,7 @@ two-steps =
 
 -- after two steps there is what `Policies.in-turn` asks for
 pub writable-reached : WritableByOneEntry (toldAt golden 0 started (tableAndPage 0 0 5) 2) (storeAt golden started (tableAndPage 0 0 5) 2) 0 0 5
-unfolding history heard told
+unfolding history afterAnswer afterAccepted
 writable-reached = let (answers-are, one-entry) = two-steps in rw answers-are one-entry
 
 -- and six steps in a row are accepted

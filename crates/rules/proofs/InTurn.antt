@@ -15,13 +15,13 @@ use Rattle.words.proofs.Bounded.{any-avoids, false-unless, and-true-left, and-t
 use Rattle.entries.specs.Entries.{Entry, fault, page, l2, entryAt, isFault, rights, first, size, covers}
 use Rattle.entries.specs.Written.{wordOf, cacheable, Encodable, a-fault, a-page, Grantable, none, read, readWrite, readExecute}
 use Rattle.rules.specs.Refusals.{Refusal, answerOf}
-use Rattle.rules.specs.Store.{blockWords, limit, Store, blocks, base, Counter, writable, executable, counter, typeOf, someBlock, fill, Outcome, settle}
+use Rattle.rules.specs.Store.{blockWords, counterLimit, Store, blocks, base, Counter, writable, executable, counter, typeOf, someBlock, fill, Outcome, settle}
 use Rattle.rules.specs.Signature.{misfitImage, certified}
-use Rattle.rules.specs.Tables.{typeD, code, entries, pages, wordIndex, tableEntry, write, execute, allows, grants, gives, gain}
+use Rattle.rules.specs.Tables.{typeD, typeCode, entries, pages, wordIndex, tableEntry, write, execute, allows, grants, gives, gain}
 use Rattle.rules.specs.General.{tableOutside, otherType, holder, executableHolder, Change, added, removed, endValue, recounted, occupied, entered}
 use Rattle.rules.specs.Map.{unlawfulRights, unfitTarget, clashingTarget, unsignedTarget, mapRefusals, mapOutcome}
 use Rattle.rules.specs.Unmap.{unmapRefusals, unmapAfter, unmapOutcome}
-use Rattle.rules.specs.Steps.{Step, maps, unmaps, obey, run, Told, told, heard}
+use Rattle.rules.specs.Steps.{Step, maps, unmaps, obey, run, Told, afterAccepted, afterAnswer}
 use Rattle.rules.specs.Policies.{WritableByOneEntry, thereAndBack}
 use Rattle.rules.proofs.Refusals.{Passed, done, step, accepted-unless}
 use Rattle.rules.proofs.Gains.{gives-fault, gives-within, gain-most}
@@ -39,7 +39,7 @@ use Rattle.rules.proofs.Removals.{none-unaccepted, none-astray}
 pub record Alone (B : ℕ) (h : Told) (s : Store) (p i t : ℕ) (e : Entry) : Type 0 where
   pub table-low : B ≤ p
   pub table-high : p < B + blocks s
-  pub table : h .types p ≡ code l2
+  pub table : h .types p ≡ typeCode l2
   pub index : i < entries l2
   pub low : B ≤ t
   pub high : t < B + blocks s
@@ -54,14 +54,14 @@ unfolding gain sum
 gain-one x c q = zero-add (num (gives c (x 0) q))
 
 -- one entry more or less leaves a counter a word
-end-small : (d : Change) (old k : ℕ) → old ≤ limit → k ≤ 1 → endValue d old k < 2 ^ 32
+end-small : (d : Change) (old k : ℕ) → old ≤ counterLimit → k ≤ 1 → endValue d old k < 2 ^ 32
 unfolding endValue
 end-small added old k l o = omega arith
 end-small removed old k l o = omega arith
 
 module _ {h : Told} {s : Store} (r : Running h s) {p i t : ℕ} {e : Entry} (a : Alone (base s) h s p i t e) where
   other : t ≢ p
-  other q = let z : typeD ≡ code l2 = sym (a .free) ∙ ap (h .types) q ∙ a .table in omega arith
+  other q = let z : typeD ≡ typeCode l2 = sym (a .free) ∙ ap (h .types) q ∙ a .table in omega arith
 
   -- what the entry gives is counted
   given-counted : (c : Counter) → num (gives c e t) ≤ recorded s c (t - base s)
@@ -114,8 +114,8 @@ module _ {h : Told} {s : Store} (r : Running h s) {p i t : ℕ} {e : Entry} (a :
   table-inside : tableOutside l2 s p ≡ false
   table-inside = inside (base s) (blocks s) p 1 (a .table-low) (omega arith)
 
-  typed : otherType l2 s p (code l2) ≡ false
-  typed = right-type r l2 p (code l2) (a .table-low) (omega arith) (λ k l. let z : p + k ≡ p = omega arith in ap (h .types) z ∙ a .table)
+  typed : otherType l2 s p (typeCode l2) ≡ false
+  typed = right-type r l2 p (typeCode l2) (a .table-low) (omega arith) (λ k l. let z : p + k ≡ p = omega arith in ap (h .types) z ∙ a .table)
 
   own-holder : holder p i ≡ p
   own-holder = omega arith
@@ -201,7 +201,7 @@ pub record Went (h : Told) (s : Store) (call : Step) (p i t : ℕ) (e : Entry) :
 
 -- a call that tells nothing and whose last refusal is 13
 goes : {h : Told} {s : Store} → Running h s → {p i t : ℕ} {e : Entry} (call : Step) (rs : List Refusal) (after : Store) → obey (h .golden) s call ≡ settle (answerOf rs) s after 0
-    → heard 0 h call ≡ h → (answerOf rs ≢ 13 → answerOf rs ≡ 0) → Alone (base s) h after p i t e → Went h s call p i t e
+    → afterAnswer 0 h call ≡ h → (answerOf rs ≢ 13 → answerOf rs ≡ 0) → Alone (base s) h after p i t e → Went h s call p i t e
 goes {h} {s} r {p} {i} {t} {e} call rs after is silent passes alone =
     let n = step-next r call in
     let answer-is : obey (h .golden) s call .answer ≡ answerOf rs = ap (λ (o : Outcome). o .answer) is ∙ settle-answer (answerOf rs) s after 0 in
@@ -212,13 +212,13 @@ goes {h} {s} r {p} {i} {t} {e} call rs after is silent passes alone =
 
 module _ {h : Told} {s : Store} (r : Running h s) {p i t : ℕ} where
   unmap-goes : {e : Entry} → Alone (h .B) h s p i t e → Went h s (unmaps pages p i) p i t fault
-  unfolding obey unmapOutcome heard told
+  unfolding obey unmapOutcome afterAnswer afterAccepted
   unmap-goes {e} alone =
       let a = subst (λ (b : ℕ). Alone b h s p i t e) (r .told-base) alone in
       goes r (unmaps pages p i) (unmapRefusals pages s p i) (unmapAfter pages s p i) refl refl (accepted-unless 13 _ (unmap-passes r a)) (unmap-alone r a)
 
   pub map-goes : {q : ℕ} → misfitImage (h .golden) ≡ false → Grantable q → Alone (h .B) h s p i t fault → Went h s (maps pages p i t q) p i t (page t q)
-  unfolding obey mapOutcome heard told
+  unfolding obey mapOutcome afterAnswer afterAccepted
   map-goes {q} image g alone =
       let a = subst (λ (b : ℕ). Alone b h s p i t fault) (r .told-base) alone in
       goes r (maps pages p i t q) (mapRefusals pages (h .golden) s p i t q) (entered s p i 1 (page t q)) refl refl (accepted-unless 13 _ (map-passes r a image g)) (map-alone r a image g)

@@ -11,13 +11,13 @@ use Rattle.words.specs.Bounded.{above, neqb}
 use Rattle.words.proofs.Bounded.{false-unless, or-false-left, or-false-right, and-false-right}
 use Rattle.entries.specs.Entries.{Entry, isUnaccepted, isLink, rights, first, size}
 use Rattle.entries.specs.Written.{Grantable, none, read, readWrite, readExecute, Encodable, a-section, a-page}
-use Rattle.rules.specs.Store.{Store, blocks, base, recordWord, Counter, writable, executable, linked, counterPlace, counter, typeOf, outside, someBlock}
+use Rattle.rules.specs.Store.{Store, blocks, base, recordWord, Counter, writable, executable, linked, counterWord, counter, typeOf, outside, someBlock}
 use Rattle.rules.specs.Signature.{certified}
-use Rattle.rules.specs.Tables.{typeD, code, Form, sections, pages, level, covered, alignment, words, mapping, allows, grants, gives, astray}
+use Rattle.rules.specs.Tables.{typeD, typeCode, Form, sections, pages, level, covered, alignment, words, mapping, allows, grants, gives, astray}
 use Rattle.rules.specs.Tables as tables
 use Rattle.rules.specs.General.{tableOutside, beyondTable, otherType, executableHolder, occupied, holder, added, someOverrun, entered}
 use Rattle.rules.specs.Map.{unlawfulRights, unfitTarget, clashingTarget, unsignedTarget, mapRefusals, mapOutcome}
-use Rattle.rules.specs.Steps.{maps, Told, told}
+use Rattle.rules.specs.Steps.{maps, Told, afterAccepted}
 use Rattle.rules.proofs.Refusals.{Passed, front, now, rest}
 use Rattle.rules.proofs.Gains.{gives-within}
 use Rattle.rules.proofs.Consistent.{Suits, Sound}
@@ -135,7 +135,7 @@ module _ (f : Form) (golden : List ℕ) (s : Store) (p i t q : ℕ) where
     pub region : Fit (base s) (blocks s) s
     pub table-inside : tableOutside (level f) s p ≡ false
     pub index-inside : beyondTable (level f) i ≡ false
-    pub typed : otherType (level f) s p (code (level f)) ≡ false
+    pub typed : otherType (level f) s p (typeCode (level f)) ≡ false
     pub unexecuted-holder : executableHolder s p i ≡ false
     pub free : occupied (level f) s p i (words f) ≡ false
     pub fits-target : Fitting
@@ -183,7 +183,7 @@ module _ (f : Form) (p i t q : ℕ) {h : Told} {s : Store} (r : Running h s) (ca
 
   -- a counter of a block of the target
   no-count : (c : Counter) (b : ℕ) → someBlock t (covered f) (λ a. above (counter c s a) 0) ≡ false → t ≤ base s + b → base s + b < t + covered f
-      → recordWord (s .ledger) (counterPlace c) b ≡ 0
+      → recordWord (s .ledger) (counterWord c) b ≡ 0
   no-count c b e lo hi = counter-none c s b (no-block-at t (covered f) (λ a. above (counter c s a) 0) e (base s + b) lo hi)
 
   map-sound : Sound (base s) (blocks s) (λ b. h .types (base s + b)) x
@@ -222,7 +222,7 @@ module _ (f : Form) (p i t q : ℕ) {h : Told} {s : Store} (r : Running h s) (ca
       enters r (level f) p i (words f) sl x map-harmless (can .written) (can .free) map-sound
 
 pub map-next : (f : Form) (p i t q : ℕ) {h : Told} {s : Store} → Running h s → Next h (maps f p i t q) (mapOutcome f (h .golden) s p i t q)
-unfolding mapOutcome told
+unfolding mapOutcome afterAccepted
 map-next f p i t q {h} {s} r =
     next-13 (maps f p i t q) (entered s p i (words f) (mapping f t q)) (mapRefusals f (h .golden) s p i t q) r (omega arith) (omega arith) (omega arith)
     (λ tests. mapped f p i t q r (mappable f (h .golden) s p i t q tests))

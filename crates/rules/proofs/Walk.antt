@@ -11,7 +11,7 @@ use Rattle.words.specs.Words.{bits}
 use Rattle.entries.specs.Entries.{Entry, fault, unaccepted, link, section, page, Level, l1, l2, entryAt, isFault, isUnaccepted, isLink, rights, first, size, covers}
 use Rattle.words.proofs.Fields.{bits-bound}
 use Rattle.rules.specs.Store.{blockBytes, blockWords, Store, blocks, base, linked}
-use Rattle.rules.specs.Tables.{code, gives, grants, astray, blockTables, l2Words}
+use Rattle.rules.specs.Tables.{typeCode, gives, grants, astray, blockTables, l2Words}
 use Rattle.rules.specs.Guest.{Walk, stops, ends, passes, endsAt, secondEntry, follow, walk}
 use Rattle.rules.specs.Steps.{Told}
 use Rattle.rules.proofs.Consistent.{Sound}
@@ -83,7 +83,7 @@ module _ {h : Told} {s : Store} (r : Running h s) (addr : ℕ) where
 
   -- word j lies in a block of a table of level v
   abbrev InTable : Level → ℕ → Type 0
-  InTable v j = (j < blockWords * blocks s) × (h .types (base s + j / blockWords) ≡ code v)
+  InTable v j = (j < blockWords * blocks s) × (h .types (base s + j / blockWords) ≡ typeCode v)
 
   table-entry : (v : Level) (j : ℕ) → InTable v j → (tables j ≡ entryAt v (s .memory) j) × Sound (base s) (blocks s) types (entryAt v (s .memory) j)
   table-entry v j (inside, typed) =

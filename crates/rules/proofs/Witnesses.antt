@@ -11,9 +11,9 @@ use Rattle.words.proofs.Words.{length-putWord, word-putWord-same}
 use Rattle.entries.specs.Entries.{l1, l2, entryAt, l1Entry, l2Entry, isLinkForm, isSectionForm, isPageForm, isFault, isUnaccepted, isLink, rights, first, size, covers}
 use Rattle.entries.specs.Rights.{mayRead, mayWrite, mayExecute, rightsOf}
 use Rattle.rules.specs.Refusals.{answerOf}
-use Rattle.rules.specs.Store.{blockBytes, limit, basePlace, activePlace, Store, recordWord, putRecordWord, retype, typePlace, counterPlace, executable, linked, someCounter, misfit, outside, someBlock, settle}
+use Rattle.rules.specs.Store.{blockBytes, counterLimit, basePlace, activePlace, Store, recordWord, putRecordWord, retype, typeWord, counterWord, executable, linked, someCounter, misfit, outside, someBlock, settle}
 use Rattle.rules.specs.Signature.{misfitImage}
-use Rattle.rules.specs.Tables.{code, sections, pages, allows, grants, gives, gain, astray}
+use Rattle.rules.specs.Tables.{typeCode, sections, pages, allows, grants, gives, gain, astray}
 use Rattle.rules.specs.General.{endValue, endsBelow, overruns, someOverrun}
 use Rattle.rules.specs.Begin.{beginOutcome}
 use Rattle.rules.specs.Map.{mapOutcome, unlawfulRights, unfitTarget, clashingTarget, unsignedTarget}
@@ -55,12 +55,12 @@ number-1-image = rw (fit 0 ledger refl) refl
 
 -- Map and unmap in an L2 block, link in an L1 table
 
-number-7 : (answers [] (lent 0 (putRecordWord oneL2 (counterPlace executable) 0 1)) (maps pages 0 0 4 0 ∷ unmaps pages 0 0 ∷ []) ≡ (7 ∷ 7 ∷ []))
-    × (answers [] (lent 0 (putRecordWord oneL1 (counterPlace executable) 0 1)) (links 0 0 4 0 ∷ []) ≡ (7 ∷ []))
+number-7 : (answers [] (lent 0 (putRecordWord oneL2 (counterWord executable) 0 1)) (maps pages 0 0 4 0 ∷ unmaps pages 0 0 ∷ []) ≡ (7 ∷ 7 ∷ []))
+    × (answers [] (lent 0 (putRecordWord oneL1 (counterWord executable) 0 1)) (links 0 0 4 0 ∷ []) ≡ (7 ∷ []))
 unfolding answers obey linkOutcome mapOutcome unmapOutcome settle answerOf outside someBlock any recordWord putRecordWord word putWord retype misfitImage
 number-7 = (
-  rw (fit 0 (putRecordWord oneL2 (counterPlace executable) 0 1) refl, length-memory 0) refl,
-  rw (fit 0 (putRecordWord oneL1 (counterPlace executable) 0 1) refl, length-memory 0) refl,
+  rw (fit 0 (putRecordWord oneL2 (counterWord executable) 0 1) refl, length-memory 0) refl,
+  rw (fit 0 (putRecordWord oneL1 (counterWord executable) 0 1) refl, length-memory 0) refl,
 )
 
 -- the first word is 1: an L1 entry that is a link, an L2 entry that is not accepted
@@ -90,26 +90,26 @@ number-10 =
 -- Counters: block 5 is written by the page 503F (hexadecimal), or linked to
 
 -- a counter at the limit that rises; one of 0 that falls; one that falls to the limit and 1; one that falls to the limit is accepted
-number-13-map : answers [] (lent 0 (writesTo5 limit)) (maps pages 0 0 5 3 ∷ []) ≡ (13 ∷ [])
+number-13-map : answers [] (lent 0 (writesTo5 counterLimit)) (maps pages 0 0 5 3 ∷ []) ≡ (13 ∷ [])
 unfolding answers obey mapOutcome settle answerOf outside someBlock any sum num recordWord putRecordWord word putWord misfitImage l2Entry isFault unlawfulRights allows unfitTarget clashingTarget unsignedTarget someOverrun someCounter overruns endValue endsBelow gain gives grants rights isLink covers first size
-number-13-map = let (_, e) = first-entry 0 (omega arith) in rw (fit 0 (writesTo5 limit) refl, length-memory 0, e) refl
+number-13-map = let (_, e) = first-entry 0 (omega arith) in rw (fit 0 (writesTo5 counterLimit) refl, length-memory 0, e) refl
 
 number-13-unmap : (answers [] (lent 0x503F (writesTo5 0)) (unmaps pages 0 0 ∷ []) ≡ (13 ∷ []))
-    × (answers [] (lent 0x503F (writesTo5 (limit + 2))) (unmaps pages 0 0 ∷ []) ≡ (13 ∷ []))
-    × (answers [] (lent 0x503F (writesTo5 (limit + 1))) (unmaps pages 0 0 ∷ []) ≡ (0 ∷ []))
+    × (answers [] (lent 0x503F (writesTo5 (counterLimit + 2))) (unmaps pages 0 0 ∷ []) ≡ (13 ∷ []))
+    × (answers [] (lent 0x503F (writesTo5 (counterLimit + 1))) (unmaps pages 0 0 ∷ []) ≡ (0 ∷ []))
 unfolding answers obey unmapOutcome settle answerOf outside someBlock any sum num recordWord putRecordWord word putWord l2Entry isPageForm isUnaccepted astray someOverrun someCounter overruns endValue endsBelow gain gives grants allows rights rightsOf mayRead mayWrite mayExecute isLink covers first size
 number-13-unmap =
     let (_, e) = first-entry 0x503F (omega arith) in (
       rw (fit 0x503F (writesTo5 0) refl, length-memory 0x503F, e) refl,
-      rw (fit 0x503F (writesTo5 (limit + 2)) refl, length-memory 0x503F, e) refl,
-      rw (fit 0x503F (writesTo5 (limit + 1)) refl, length-memory 0x503F, e) refl,
+      rw (fit 0x503F (writesTo5 (counterLimit + 2)) refl, length-memory 0x503F, e) refl,
+      rw (fit 0x503F (writesTo5 (counterLimit + 1)) refl, length-memory 0x503F, e) refl,
     )
 
-number-13-link : answers [] (lent 0 (putRecordWord (putRecordWord oneL1 typePlace 5 (code l2)) (counterPlace linked) 5 limit)) (links 0 0 5 0 ∷ []) ≡ (13 ∷ [])
+number-13-link : answers [] (lent 0 (putRecordWord (putRecordWord oneL1 typeWord 5 (typeCode l2)) (counterWord linked) 5 counterLimit)) (links 0 0 5 0 ∷ []) ≡ (13 ∷ [])
 unfolding answers obey linkOutcome settle answerOf outside someBlock any sum num recordWord putRecordWord word putWord retype l1Entry isFault someOverrun someCounter overruns endValue endsBelow gain gives grants allows rights isLink covers first size
 number-13-link =
     let (e, _) = first-entry 0 (omega arith) in
-    rw (fit 0 (putRecordWord (putRecordWord oneL1 typePlace 5 (code l2)) (counterPlace linked) 5 limit) refl, length-memory 0, e) refl
+    rw (fit 0 (putRecordWord (putRecordWord oneL1 typeWord 5 (typeCode l2)) (counterWord linked) 5 counterLimit) refl, length-memory 0, e) refl
 
 -- The guest
 

@@ -7,7 +7,7 @@ use Rattle.words.specs.Bounded.{above, neqb}
 use Rattle.rules.specs.Refusals.{Refusal, _if_, answerOf}
 use Rattle.rules.specs.Store.{Store, blocks, base, writable, executable, typeOf, counter, outside, someBlock, misfit, Outcome, settle}
 use Rattle.rules.specs.Signature.{misfitImage, certified}
-use Rattle.rules.specs.Tables.{typeD, code, tableBlocks, Form, level, covered, alignment, words, mapping, read, write, execute, allows}
+use Rattle.rules.specs.Tables.{typeD, typeCode, tableBlocks, Form, level, covered, alignment, words, mapping, read, write, execute, allows}
 use Rattle.rules.specs.General.{tableOutside, misaligned, beyondTable, otherType, holder, executableHolder, someOverrun, occupied, entered, added}
 
 -- "9 if rights exceed 7, or hold write or execute without read"
@@ -41,7 +41,7 @@ mapRefusals f golden s p i t r =
     ∷ 3 if misaligned p (tableBlocks (level f))
     ∷ 3 if misaligned t (alignment f)
     ∷ 4 if beyondTable (level f) i
-    ∷ 5 if otherType (level f) s p (code (level f))
+    ∷ 5 if otherType (level f) s p (typeCode (level f))
     ∷ 7 if executableHolder s p i
     ∷ 8 if occupied (level f) s p i (words f)
     ∷ 9 if unlawfulRights r

@@ -12,9 +12,9 @@ use Rattle.rules.specs.Store.{blockWords, Store, base, Counter, writable
 abbrev pub typeD : ℕ
 typeD = 0
 
-abbrev pub code : Level → ℕ
-code l1 = 1
-code l2 = 2
+abbrev pub typeCode : Level → ℕ
+typeCode l1 = 1
+typeCode l2 = 2
 
 -- "An L1 table is four blocks, the first a multiple of 4"; an L2 block is one
 abbrev pub tableBlocks : Level → ℕ
@@ -63,7 +63,7 @@ mapping pages t r = page t r
 
 -- word j of the memory as an entry of a block of this type: "All entries of blocks typed L1 or L2 are counted", no others
 unfoldable pub typedEntry : ℕ → List ℕ → ℕ → Entry
-typedEntry t memory j = cond (eqb t (code l1)) (entryAt l1 memory j) (cond (eqb t (code l2)) (entryAt l2 memory j) fault)
+typedEntry t memory j = cond (eqb t (typeCode l1)) (entryAt l1 memory j) (cond (eqb t (typeCode l2)) (entryAt l2 memory j) fault)
 
 -- the word in which entry i of the table at physical block p stands, and the entry
 abbrev pub wordIndex : Store → ℕ → ℕ → ℕ
