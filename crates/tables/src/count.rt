@@ -111,7 +111,7 @@ fn is_complete(level: Level, memory: &[u8], ledger: &[u8], j: usize, m: usize, d
 }
 
 // Counts the table's m entries, or leaves the ledger if a counter would overrun; true if they are counted.
-pub fn count_table(
+fn count_table(
     change: Change,
     level: Level,
     memory: &[u8],
