@@ -1,32 +1,21 @@
 // What a word of a table means: ARMv7-A short descriptors in the accepted forms.
-use crate::entry::BLOCKS_OF_A_SECTION;
 use crate::entry::EXECUTE;
 use crate::entry::Entry;
 use crate::entry::Level;
 use crate::entry::Mapping;
 use crate::entry::READ;
+use crate::entry::SECTION_BLOCKS;
 use crate::entry::WRITE;
 use crate::table::rights_at;
-use words::WORD_SIZE;
+use words::WORD_BYTES;
 ghost use mathlib.Core.Path.{_≡_};
 ghost use Prim.Native.Nat.{_+_, _*_, _<_};
 ghost use Rattle.words.specs.Bounded.{num};
 ghost use Rattle.words.specs.Words.{bits};
 ghost use Rattle.entries.specs.Rights.{mayRead, mayWrite, mayExecute, rightsOf};
-ghost use Rattle.entries.specs.Entries.{
-  HoldsWord,
-  entryAt,
-  isLinkForm,
-  isSectionForm,
-  l1,
-  l1Entry,
-  l2,
-  l2Entry,
-  sectionAP,
-  sectionXN,
-  sectionZeros,
-};
+ghost use Rattle.entries.specs.Entries.{entryAt, isLinkForm, isSectionForm, l1, l1Entry, l2, l2Entry, sectionAP, sectionBlocks, sectionXN, sectionZeros};
 ghost use Rattle.entries.specs.Meaning.{levelOf, meaning};
+ghost use Rattle.entries.specs.Needs.{HoldsWord};
 
 const FAULT_FORM: u32 = 0b00;
 
@@ -125,11 +114,11 @@ fn is_section_form(w: u32) -> bool
 
 // The first block and the rights of a section.
 fn section_mapping(w: u32) -> Mapping
-    ensures { λ r. ⌜ (r .first ≡ 256 * bits w 20 12) × (r .rights ≡ rightsOf (sectionAP w) (sectionXN w)) ⌝ }
+    ensures { λ r. ⌜ (r .first ≡ sectionBlocks * bits w 20 12) × (r .rights ≡ rightsOf (sectionAP w) (sectionXN w)) ⌝ }
 {
     let rights = rights_of(section_ap(w), section_xn(w));
     Mapping {
-        first: BLOCKS_OF_A_SECTION * words::bits(w, 20, 12),
+        first: SECTION_BLOCKS * words::bits(w, 20, 12),
         rights,
     }
 }
@@ -170,7 +159,7 @@ pub fn l1_entry_at(mem: &[u8], j: usize) -> Entry
     requires { ⌜ HoldsWord (now mem) j ⌝ }
     ensures { λ r. ⌜ meaning r ≡ entryAt l1 (now (mem .entry)) j ⌝ }
 {
-    l1_entry(words::word(mem, WORD_SIZE * j))
+    l1_entry(words::word(mem, WORD_BYTES * j))
 }
 
 // Word j of the memory, read as an entry of an L2 table.
@@ -178,7 +167,7 @@ pub fn l2_entry_at(mem: &[u8], j: usize) -> Entry
     requires { ⌜ HoldsWord (now mem) j ⌝ }
     ensures { λ r. ⌜ meaning r ≡ entryAt l2 (now (mem .entry)) j ⌝ }
 {
-    l2_entry(words::word(mem, WORD_SIZE * j))
+    l2_entry(words::word(mem, WORD_BYTES * j))
 }
 
 // Word j of the memory, read as an entry of a table of this level.

@@ -1,5 +1,5 @@
 // Where the ledger keeps what, and the limits of a region: "Memory and ledger".
-use words::WORD_SIZE;
+use words::WORD_BYTES;
 ghost use mathlib.Core.Path.{_≡_};
 ghost use Prim.Native.Nat.{_+_, _*_, _≤_};
 ghost use lib.ListN.{length};
@@ -82,7 +82,7 @@ pub fn record_word(ledger: &[u8], k: usize, b: usize) -> u32
 {
     words::word(
         ledger,
-        LEDGER_HEAD_BYTES + LEDGER_RECORD_BYTES * b + WORD_SIZE * k,
+        LEDGER_HEAD_BYTES + LEDGER_RECORD_BYTES * b + WORD_BYTES * k,
     )
 }
 
@@ -92,7 +92,7 @@ pub fn put_record_word(ledger: &mut [u8], k: usize, b: usize, v: u32)
 {
     words::put_word(
         ledger,
-        LEDGER_HEAD_BYTES + LEDGER_RECORD_BYTES * b + WORD_SIZE * k,
+        LEDGER_HEAD_BYTES + LEDGER_RECORD_BYTES * b + WORD_BYTES * k,
         v,
     );
 }

@@ -25,7 +25,7 @@ ghost use Rattle.ledger.specs.Pieces.{placeRefusals, tableRefusals};
 // The blocks of a table of each level.
 pub const L1_BLOCKS: u32 = 4;
 
-pub const L2_BLOCKS: u32 = 1;
+const L2_BLOCKS: u32 = 1;
 
 pub fn table_blocks(level: Level) -> u32
     ensures { λ r. ⌜ (r ≡ tableBlocks (levelOf level)) × (0 < r) × (r ≤ 4) ⌝ }

@@ -6,7 +6,7 @@ use Rattle.entries.specs.Entries.{Entry, Level, l2, isUnaccepted}
 use Rattle.rules.specs.Refusals.{Refusal, _if_}
 use Rattle.rules.specs.Store.{Store, base, blocks, typeOf, misfit}
 use Rattle.rules.specs.Signature.{misfitImage}
-use Rattle.rules.specs.Tables.{typeCode, tableBlocks, Form, level, alignment, mapping, astray}
+use Rattle.rules.specs.Tables.{typeCode, tableBlocks, Form, level, mapping, astray, covered}
 use Rattle.rules.specs.General.{otherType, executableHolder, tableOutside, misaligned, beyondTable, someOverrun, added, removed}
 use Rattle.rules.specs.Link.{linkTo}
 use Rattle.rules.specs.Map.{unfitTarget, clashingTarget, unsignedTarget}
@@ -27,7 +27,7 @@ linkTargetRefusals s t j = 10 if tableOutside l2 s t ∷ 10 if neqb (typeOf s t)
 abbrev pub mapPlaceRefusals : Form → List ℕ → Store → ℕ → ℕ → ℕ → List Refusal
 mapPlaceRefusals f golden s p i t =
     1 if misfit s (base s) ∷ 1 if misfitImage golden ∷ 2 if tableOutside (level f) s p ∷ 3 if misaligned p (tableBlocks (level f))
-    ∷ 3 if misaligned t (alignment f) ∷ 4 if beyondTable (level f) i ∷ []
+    ∷ 3 if misaligned t (covered f) ∷ 4 if beyondTable (level f) i ∷ []
 
 -- and of its target
 abbrev pub mapTargetRefusals : Form → List ℕ → Store → ℕ → ℕ → ℕ → ℕ → List Refusal

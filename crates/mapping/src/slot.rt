@@ -13,7 +13,7 @@ use ledger::refusals::EXECUTABLE_HOLDER;
 use ledger::refusals::WRONG_TYPE;
 use ledger::table::is_other_type;
 use ledger::table::table_type;
-use words::WORD_SIZE;
+use words::WORD_BYTES;
 use words::put_word;
 ghost use mathlib.Core.Bool.{false};
 ghost use mathlib.Core.Path.{_≡_};
@@ -79,5 +79,5 @@ pub fn write_entry(
 {
     let j = word_index(ledger, block, index);
     change_entry(change, memory, ledger, e);
-    put_word(memory, WORD_SIZE * j, w);
+    put_word(memory, WORD_BYTES * j, w);
 }

@@ -16,7 +16,7 @@ use Rattle.words.proofs.Lists.{length-tabulate}
 use Rattle.signature.specs.Sha256.{digestByte, hash, sha256}
 use Rattle.signature.specs.Signed.{digestBytes, agrees, listed, signed}
 use Rattle.entries.specs.Entries.{Entry, fault, Level, l1, l2, entryAt, l1Entry, l2Entry, isUnaccepted, isLink, rights, size}
-use Rattle.entries.specs.Written.{readWrite}
+use Rattle.entries.proofs.RoundTrip.{readWrite}
 use Rattle.rules.specs.Refusals.{answerOf}
 use Rattle.rules.specs.Store.{blockWords, Store, blocks, base, Counter, writable, executable, linked, counter, someCounter, someBlock, someRegionBlock}
 use Rattle.rules.specs.Signature.{misfitImage, contents, certified}
@@ -36,7 +36,7 @@ use Rattle.rules.proofs.Passing.{settle-answer, inside, no-misfit, righ
 use Rattle.rules.proofs.InTurn.{Alone, map-goes, of-alone}
 use Rattle.rules.proofs.Policies.{policies}
 use Rattle.rules.proofs.Runs.{answers-append}
-use Rattle.rules.proofs.SmallStores.{memory, length-memory, first-entry, rest-entry, ledger, lent, fit}
+use Rattle.rules.proofs.SmallStores.{memory, length-memory, first-entry, rest-entry, ledger, smallStore, fit}
 
 -- every word is a fault, at either level
 abbrev Blank : List ℕ → Type 0
@@ -164,16 +164,16 @@ lawful-digest block = rw (length-tabulate (digestByte (hash block)) 32) refl
 abbrev pub golden : List ℕ
 golden = sha256 (contents (memory 0) 5)
 
-begins-zeros : beginOutcome (lent 0 ledger) 0 .answer ≡ 0
+begins-zeros : beginOutcome (smallStore 0 ledger) 0 .answer ≡ 0
 unfolding beginOutcome
 begins-zeros = settle-answer _ _ _ _ ∙ accepted (step (fit 0 ledger refl) done)
 
 abbrev pub started : Store
-started = beginOutcome (lent 0 ledger) 0 .after
+started = beginOutcome (smallStore 0 ledger) 0 .after
 
 started-memory : started .memory ≡ memory 0
 unfolding beginOutcome
-started-memory = ap (λ (x : Store). x .memory) (settle-accepted (lent 0 ledger) (beginAfter (lent 0 ledger) 0) (answerOf (beginRefusals (lent 0 ledger) 0)) 0 begins-zeros .1)
+started-memory = ap (λ (x : Store). x .memory) (settle-accepted (smallStore 0 ledger) (beginAfter (smallStore 0 ledger) 0) (answerOf (beginRefusals (smallStore 0 ledger) 0)) 0 begins-zeros .1)
 
 zeros-blank : Blank (memory 0)
 unfolding l1Entry l2Entry
@@ -186,7 +186,7 @@ zeros-blank v j = go v (below-or-above 0 j) where
 two-steps : (run golden started (tableAndPage 0 0 5) .answers ≡ (0 ∷ 0 ∷ [])) × WritableByOneEntry (afterAccepted (begun 0 golden) (creates l2 0)) (run golden started (tableAndPage 0 0 5) .reached) 0 0 5
 unfolding certified
 two-steps =
-    mapped (begin-accepted (lent 0 ledger) 0 golden begins-zeros) (rw started-memory zeros-blank) (lawful-digest (contents (memory 0) 5)) 0 0 5 (omega arith)
+    mapped (begin-accepted (smallStore 0 ledger) 0 golden begins-zeros) (rw started-memory zeros-blank) (lawful-digest (contents (memory 0) 5)) 0 0 5 (omega arith)
     (rw (started-memory, length-memory 0) (omega arith)) (rw (started-memory, length-memory 0) (omega arith)) (λ e. omega arith) refl refl
     (rw started-memory (signed-by-own-digest (contents (memory 0) 5)))
 
@@ -198,5 +198,5 @@ writable-reached = let (answers-are, one-entry) = two-steps in rw answers-are on
 -- and six steps in a row are accepted
 pub six-accepted : run golden started (tableAndPage 0 0 5 ++ thereAndBack 0 0 5) .answers ≡ (0 ∷ 0 ∷ 0 ∷ 0 ∷ 0 ∷ 0 ∷ [])
 six-accepted =
-    let back = policies golden (lent 0 ledger) 0 begins-zeros (tableAndPage 0 0 5) .in-turn (lawful-digest (contents (memory 0) 5)) 0 0 5 2 writable-reached in
+    let back = policies golden (smallStore 0 ledger) 0 begins-zeros (tableAndPage 0 0 5) .in-turn (lawful-digest (contents (memory 0) 5)) 0 0 5 2 writable-reached in
     answers-append golden started (tableAndPage 0 0 5) (thereAndBack 0 0 5) ∙ rw (two-steps .0, back) refl

@@ -4,10 +4,9 @@ use mathlib.Core.Bool.{Bool, true, false, _&&_, _||_, false≢true}
 use mathlib.Core.Path.{_≡_, refl, sym, _∙_}
 use Prim.Native.Nat.{ℕ, _+_, _-_, _<_, _≤_}
 use native.Mathlib.Omega.{arith}
-use borrow.Author.Tests.{lt-ltb, le-leb, not-false}
-use lib.Dec.{leb, ltb}
-use Rattle.words.specs.Bounded.{above, neqb, any}
-use Rattle.words.proofs.Bounded.{any-none, or-false-left, or-false-right, and-false-right}
+use borrow.Author.Tests.{lt-ltb, not-false}
+use Rattle.words.specs.Bounded.{above, neqb, any, among}
+use Rattle.words.proofs.Bounded.{any-none, or-false-left, or-false-right, and-false-right, among-in}
 use Rattle.entries.specs.Entries.{Entry, Level, l2, isUnaccepted, isLink, first, size}
 use Rattle.rules.specs.Store.{Store, blocks, base, Counter, writable, executable, linked, someCounter, typeOf, counter, someBlock, someRegionBlock}
 use Rattle.rules.specs.Tables.{typeD, typeCode, tableBlocks, entries, tableEntry, grants, gives, gain, astray}
@@ -48,7 +47,7 @@ module _ (v : Level) (s : Store) (p : ℕ) (x : Entry) where
   notL2 b = neqb (typeOf s b) (typeCode l2)
 
   abbrev own : ℕ → Bool
-  own b = leb p b && ltb b (p + tableBlocks v)
+  own b = among p (tableBlocks v) b
 
   abbrev notFree : ℕ → Bool
   notFree b = neqb (typeOf s b) typeD || own b
@@ -97,7 +96,7 @@ module _ (v : Level) (p : ℕ) {h : Told} {s : Store} (r : Running h s) (can : C
       let t = no-block-at (first x) (size x) (notFree v s p x) (placed .write-free grant) q lo hi in
       let is = sym (type-told r q (omega arith) (omega arith)) ∙ equal (typeOf s q) typeD (or-false-left (neqb (typeOf s q) typeD) (own v s p x q) t) in
       stays added v p r low high writable b is
-      (λ from to. let o : own v s p x q ≡ true = rw (le-leb p q from, lt-ltb q (p + tableBlocks v) to) refl in
+      (λ from to. let o : own v s p x q ≡ true = among-in p (tableBlocks v) q from to in
       absurd (false≢true (sym (or-false-right (neqb (typeOf s q) typeD) (own v s p x q) t) ∙ o)))
   new-suits x placed executable b l g = tt
   new-suits x placed linked b l g =

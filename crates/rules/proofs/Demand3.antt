@@ -137,7 +137,7 @@ module _ (golden : List ℕ) where
 
 -- every list that starts from what an accepted begin leaves
 pub demand3 : Demand3-holds
-demand3 golden lent B accepted steps = demanded golden (begin-accepted lent B golden accepted) steps
+demand3 golden start B accepted steps = demanded golden (begin-accepted start B golden accepted) steps
 
 -- so it holds of the very store that a list reaches, with all its answers
 pub at-the-end : {golden : List ℕ} {B : ℕ} {s : Store} {steps : List Step} → Demand3 golden B s steps

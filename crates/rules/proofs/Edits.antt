@@ -10,7 +10,8 @@ use borrow.Author.Tests.{ltb-false, leb-false, not-false}
 use Rattle.words.specs.Bounded.{above}
 use Rattle.words.proofs.Bounded.{any-none}
 use Rattle.entries.specs.Entries.{Entry, fault, Level, entryAt, isFault}
-use Rattle.entries.specs.Written.{wordOf, cacheable, Encodable}
+use Rattle.entries.specs.Written.{wordOf, cacheable}
+use Rattle.entries.proofs.RoundTrip.{Encodable}
 use Rattle.rules.specs.Store.{blockWords, Store, blocks, base, Counter, writable, executable, counter, fill}
 use Rattle.rules.specs.Tables.{typeCode, tableBlocks, entries, Form, sections, pages, words, wordIndex, tableEntry, grants, gives, gain}
 use Rattle.rules.specs.General.{occupied, entered, tableOutside, beyondTable, otherType, holder, executableHolder, Change, added, endValue, someOverrun, recounted}

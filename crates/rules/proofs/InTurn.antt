@@ -7,13 +7,13 @@ use mathlib.Core.Path.{_≡_, refl, sym, _∙_, ap, subst}
 use Prim.Native.Nat.{ℕ, _+_, _-_, _*_, _%_, _^_, _<_, _≤_}
 use native.Mathlib.Nat.{add-zero, zero-add, mod-one}
 use native.Mathlib.Omega.{arith}
-use lib.Dec.{leb, ltb}
 use lib.ListN.{take}
-use borrow.Author.Tests.{le-ltb, le-leb, lt-leb, lt-ltb, leb-true, ltb-true}
-use Rattle.words.specs.Bounded.{above, neqb, sum, num}
-use Rattle.words.proofs.Bounded.{any-avoids, false-unless, and-true-left, and-true-right, same}
+use borrow.Author.Tests.{le-ltb, lt-leb}
+use Rattle.words.specs.Bounded.{above, neqb, among, sum, num}
+use Rattle.words.proofs.Bounded.{any-avoids, false-unless, and-true-right, same, among-in, among-within}
 use Rattle.entries.specs.Entries.{Entry, fault, page, l2, entryAt, isFault, rights, first, size, covers}
-use Rattle.entries.specs.Written.{wordOf, cacheable, Encodable, a-fault, a-page, Grantable, none, read, readWrite, readExecute}
+use Rattle.entries.specs.Written.{wordOf, cacheable}
+use Rattle.entries.proofs.RoundTrip.{Encodable, a-fault, a-page, Grantable, none, read, readWrite, readExecute}
 use Rattle.rules.specs.Refusals.{Refusal, answerOf}
 use Rattle.rules.specs.Store.{blockWords, counterLimit, Store, blocks, base, Counter, writable, executable, counter, typeOf, someBlock, fill, Outcome, settle}
 use Rattle.rules.specs.Signature.{misfitImage, certified}
@@ -161,11 +161,9 @@ module _ {h : Told} {s : Store} (r : Running h s) {p i t q : ℕ} (a : Alone (ba
   fit-target : unfitTarget pages s p i t q ≡ false
   unfolding unfitTarget
   fit-target =
-      let own = allows q execute && leb t (holder p i) in
       rw (inside (base s) (blocks s) t 1 (a .low) (omega arith), one-block t (λ b. neqb (typeOf s b) typeD) (same (typeOf s t) typeD (type-told r t (a .low) (a .high) ∙ a .free)), and-false (allows q write))
-      (false-unless (own && ltb (holder p i) (t + 1)) (λ e.
-      let lo = leb-true t (holder p i) (and-true-right (allows q execute) (leb t (holder p i)) (and-true-left own (ltb (holder p i) (t + 1)) e)) in
-      let hi = ltb-true (holder p i) (t + 1) (and-true-right own (ltb (holder p i) (t + 1)) e) in
+      (false-unless (allows q execute && among t 1 (holder p i)) (λ e.
+      let (lo, hi) = among-within t 1 (holder p i) (and-true-right (allows q execute) (among t 1 (holder p i)) e) in
       other r a (omega (arith, own-holder r a))))
 
   clear-target : clashingTarget pages s t q ≡ false
@@ -227,7 +225,7 @@ module _ {h : Told} {s : Store} (r : Running h s) {p i t : ℕ} where
 
 page-gives : (t : ℕ) → (gives writable (page t 3) t ≡ true) × (gives executable (page t 3) t ≡ false)
 unfolding gives grants allows rights covers first size
-page-gives t = (rw (le-leb t t (omega arith), lt-ltb t (t + 1) (omega arith)) refl, refl)
+page-gives t = (rw (among-in t 1 t (omega arith) (omega arith)) refl, refl)
 
 module _ {h : Told} {s : Store} (r : Running h s) {p i t : ℕ} where
   -- the entry is sound and counted, so that its target is data and not executable

@@ -5,9 +5,8 @@ use mathlib.Core.Path.{_≡_, refl, sym, _∙_}
 use Prim.Native.Nat.{ℕ, zero, suc, _+_, _*_, _^_, _<_, _≤_}
 use native.Mathlib.Omega.{arith}
 use lib.ListN.{length}
-use borrow.Author.Tests.{lt-ltb, le-ltb, le-leb, lt-leb}
 use Rattle.words.specs.Words.{word, putWord}
-use Rattle.words.proofs.Bounded.{last-or-below, below-or-above}
+use Rattle.words.proofs.Bounded.{last-or-below, below-or-above, among-in, among-out}
 use Rattle.words.proofs.Words.{length-putWord, word-putWord-same, word-putWord-other}
 use Rattle.rules.specs.Store.{ledgerHeadBytes, ledgerRecordBytes, recordWord, putRecordWord, typeWord, Counter, writable, executable, linked, counterWord, retype, putCounters, recount}
 use Rattle.rules.specs.Steps.{typed}
@@ -164,11 +163,8 @@ counter-recount led (suc k) n f e le c b l h =
 module _ (types : ℕ → ℕ) (p m t b : ℕ) where
   pub typed-in : p ≤ b → b < p + m → typed types p m t b ≡ t
   unfolding typed
-  typed-in lo hi = rw (le-leb p b lo, lt-ltb b (p + m) hi) refl
+  typed-in lo hi = rw (among-in p m b lo hi) refl
 
   pub typed-out : (p ≤ b → p + m ≤ b) → typed types p m t b ≡ types b
   unfolding typed
-  typed-out o =
-      ⊎-elim (λ (l : b < p). rw (lt-leb p b l) refl)
-      (λ (l : p ≤ b). rw (le-leb p b l, le-ltb b (p + m) (o l)) refl)
-      (below-or-above b p)
+  typed-out o = rw (among-out p m b o) refl

@@ -4,10 +4,10 @@ use mathlib.Core.Path.{_≡_, refl, sym, _∙_}
 use Prim.Native.Nat.{ℕ, _+_, _*_, _/_, _<_, _≤_}
 use native.Mathlib.Omega.{arith}
 use borrow.Author.Tests.{leb-false}
-use Rattle.entries.specs.Entries.{l1, l2, isUnaccepted, rights, first, size}
-use Rattle.entries.specs.Written.{Encodable, a-link}
+use Rattle.entries.specs.Entries.{l1, l2, isUnaccepted, rights, first, size, blockTables}
+use Rattle.entries.proofs.RoundTrip.{Encodable, a-link}
 use Rattle.rules.specs.Store.{Store, blocks, base, Counter, writable, executable, linked, typeOf}
-use Rattle.rules.specs.Tables.{typeCode, tableBlocks, allows, grants, gives, astray, blockTables}
+use Rattle.rules.specs.Tables.{typeCode, tableBlocks, allows, grants, gives, astray}
 use Rattle.rules.specs.General.{occupied, entered, tableOutside, beyondTable, otherType, executableHolder, added, someOverrun}
 use Rattle.rules.specs.Link.{linkTo, linkRefusals, linkOutcome}
 use Rattle.rules.specs.Steps.{links, Told, afterAccepted}
@@ -59,7 +59,7 @@ module _ (p i t j : ℕ) {h : Told} {s : Store} (r : Running h s) (can : Linkabl
   unfolding gives grants allows rights isUnaccepted astray size first
   link-sound =
       let (low, high) = within (base s) (blocks s) t (tableBlocks l2) (can .target-inside) in
-      let is : (blockTables * t + j) / 4 ≡ t = omega arith in
+      let is : (blockTables * t + j) / blockTables ≡ t = omega arith in
       record { accepted = refl; inside = rw is (can .target-inside); suits = suits low high } where
         suits : base s ≤ t → t + tableBlocks l2 ≤ base s + blocks s → (c : Counter) (b : ℕ) → b < blocks s → gives c (linkTo t j) (base s + b) ≡ true → Suits c (h .types (base s + b))
         suits low high writable b l g = absurd (false≢true g)

@@ -41,14 +41,14 @@ first-entry w h = let e = word-putWord-same (zeros (blockBytes * 8)) 0 w (rw (le
 abbrev pub ledger : List ℕ
 ledger = replicate (ledgerHeadBytes + ledgerRecordBytes * 8) 0
 
-abbrev pub lent : ℕ → List ℕ → Store
-lent w led = record { memory = memory w; ledger = led }
+abbrev pub smallStore : ℕ → List ℕ → Store
+smallStore w led = record { memory = memory w; ledger = led }
 
-pub fit : (w : ℕ) (led : List ℕ) → length led ≡ ledgerHeadBytes + ledgerRecordBytes * 8 → misfit (lent w led) 0 ≡ false
+pub fit : (w : ℕ) (led : List ℕ) → length led ≡ ledgerHeadBytes + ledgerRecordBytes * 8 → misfit (smallStore w led) 0 ≡ false
 unfolding misfit
 fit w led e = rw (length-memory w, e) refl
 
-pub unfit : (w : ℕ) (led : List ℕ) → length led ≡ ledgerHeadBytes + ledgerRecordBytes * 8 → misfit (lent w led) 1 ≡ true
+pub unfit : (w : ℕ) (led : List ℕ) → length led ≡ ledgerHeadBytes + ledgerRecordBytes * 8 → misfit (smallStore w led) 1 ≡ true
 unfolding misfit
 unfit w led e = rw (length-memory w, e) refl
 

@@ -4,7 +4,7 @@ use mathlib.Core.Path.{_≡_, refl}
 use Prim.Native.Nat.{ℕ, _+_}
 use native.Mathlib.Omega.{arith}
 use Rattle.entries.specs.Entries.{Entry, fault}
-use Rattle.entries.specs.Written.{a-fault}
+use Rattle.entries.proofs.RoundTrip.{a-fault}
 use Rattle.rules.specs.Store.{Store}
 use Rattle.rules.specs.Tables.{Form, level, words, tableEntry}
 use Rattle.rules.specs.General.{removed, endValue, someOverrun}

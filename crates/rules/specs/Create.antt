@@ -2,8 +2,7 @@
 use mathlib.Core.Bool.{Bool, not, _&&_, _||_}
 use mathlib.Core.List.{List, [], _∷_}
 use Prim.Native.Nat.{ℕ, _+_, _-_}
-use lib.Dec.{leb, ltb}
-use Rattle.words.specs.Bounded.{above, neqb, any}
+use Rattle.words.specs.Bounded.{above, neqb, among, any}
 use Rattle.entries.specs.Entries.{Entry, Level, l2, isUnaccepted, isLink, first, size}
 use Rattle.rules.specs.Refusals.{Refusal, _if_, answerOf}
 use Rattle.rules.specs.Store.{Store, blocks, base, writable, executable, someCounter, typeOf, counter, retype, someBlock, someRegionBlock, misfit, Outcome, settle}
@@ -21,7 +20,7 @@ unfitLink s e = isLink e && someBlock (first e) (size e) (λ b. neqb (typeOf s b
 
 -- "a writable target isn't D or is one of the blocks being typed"
 unfoldable pub unfitWrite : Level → Store → ℕ → Entry → Bool
-unfitWrite v s p e = grants writable e && someBlock (first e) (size e) (λ b. neqb (typeOf s b) typeD || leb p b && ltb b (p + tableBlocks v))
+unfitWrite v s p e = grants writable e && someBlock (first e) (size e) (λ b. neqb (typeOf s b) typeD || among p (tableBlocks v) b)
 
 -- "10 if some entry's place is not wholly in the region, a link's block isn't L2, or a writable target isn't D or is one of the blocks being typed"
 unfoldable pub misplaced : Level → Store → ℕ → Entry → Bool

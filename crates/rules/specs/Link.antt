@@ -3,10 +3,10 @@ use mathlib.Core.List.{List, [], _∷_}
 use Prim.Native.Nat.{ℕ, _+_, _*_}
 use lib.Dec.{leb}
 use Rattle.words.specs.Bounded.{neqb}
-use Rattle.entries.specs.Entries.{Entry, link, l1, l2}
+use Rattle.entries.specs.Entries.{Entry, link, l1, l2, blockTables}
 use Rattle.rules.specs.Refusals.{Refusal, _if_, answerOf}
 use Rattle.rules.specs.Store.{Store, base, typeOf, misfit, Outcome, settle}
-use Rattle.rules.specs.Tables.{typeCode, tableBlocks, blockTables}
+use Rattle.rules.specs.Tables.{typeCode, tableBlocks}
 use Rattle.rules.specs.General.{tableOutside, misaligned, beyondTable, otherType, executableHolder, someOverrun, occupied, entered, added}
 
 -- "A link is the table's address + 1": the link to table j of block t

@@ -1,9 +1,9 @@
 -- Lists of steps, and what the steps and their answers tell ("Lists of steps").
-use mathlib.Core.Bool.{cond, _&&_}
+use mathlib.Core.Bool.{cond}
 use mathlib.Core.List.{List, [], _∷_}
 use mathlib.Core.Option.{Option, none, some}
 use Prim.Native.Nat.{ℕ, zero, suc, _+_, _*_, _/_}
-use lib.Dec.{leb, ltb}
+use Rattle.words.specs.Bounded.{among}
 use Rattle.entries.specs.Entries.{Level}
 use Rattle.rules.specs.Store.{blockWords, Store, Counter, Outcome}
 use Rattle.rules.specs.Tables.{typeD, typeCode, tableBlocks, Form, typedEntry, gain}
@@ -66,7 +66,7 @@ begun B golden = record { B = B; types = λ b. typeD; table = none; golden = gol
 
 -- the m blocks from p on have type t, the others their types
 unfoldable pub typed : (ℕ → ℕ) → ℕ → ℕ → ℕ → ℕ → ℕ
-typed types p m t b = cond (leb p b && ltb b (p + m)) t (types b)
+typed types p m t b = cond (among p m b) t (types b)
 
 -- "An accepted create L1 adds its four blocks as L1, an accepted create L2 its block as L2, and an accepted free takes away what it names"
 unfoldable pub afterAccepted : Told → Step → Told

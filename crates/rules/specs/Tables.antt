@@ -5,7 +5,7 @@ use Prim.Native.Nat.{ℕ, _+_, _-_, _*_}
 use lib.Dec.{eqb}
 use Rattle.words.specs.Bounded.{above, count}
 use Rattle.words.specs.Words.{bits}
-use Rattle.entries.specs.Entries.{Entry, fault, section, page, Level, l1, l2, entryAt, isLink, rights, first, size, covers}
+use Rattle.entries.specs.Entries.{Entry, fault, section, page, Level, l1, l2, sectionBlocks, entryAt, isLink, rights, first, size, covers}
 use Rattle.rules.specs.Store.{blockWords, Store, base, Counter, writable, executable, linked, outside}
 
 -- "type (0 = D data, 1 = L1, 2 = L2)"
@@ -25,10 +25,7 @@ tableBlocks l2 = 1
 abbrev pub entries : Level → ℕ
 entries v = blockWords * tableBlocks v
 
--- "An L2 block holds four L2 tables of 256 words"
-abbrev pub blockTables : ℕ
-blockTables = 4
-
+-- "four L2 tables of 256 words"
 abbrev pub l2Words : ℕ
 l2Words = 256
 
@@ -42,14 +39,10 @@ abbrev pub level : Form → Level
 level sections = l1
 level pages = l2
 
--- "counts once on each of its 256 blocks": the blocks of a target
+-- "counts once on each of its 256 blocks": the blocks of a target, and of what its first is a multiple
 abbrev pub covered : Form → ℕ
-covered sections = 256
+covered sections = sectionBlocks
 covered pages = 1
-
--- "section target not a multiple of 256"
-abbrev pub alignment : Form → ℕ
-alignment f = covered f
 
 -- the words of a table that a mapping takes
 abbrev pub words : Form → ℕ
