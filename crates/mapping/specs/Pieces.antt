@@ -6,7 +6,7 @@ use Rattle.entries.specs.Entries.{Entry, Level, l2, isUnaccepted}
 use Rattle.rules.specs.Refusals.{Refusal, _if_}
 use Rattle.rules.specs.Store.{Store, base, blocks, typeOf, misfit}
 use Rattle.rules.specs.Signature.{misfitImage}
-use Rattle.rules.specs.Tables.{typeCode, tableBlocks, Form, level, mapping, astray, covered}
+use Rattle.rules.specs.Tables.{typeCode, tableBlocks, Form, level, covered, mapping, astray}
 use Rattle.rules.specs.General.{otherType, executableHolder, tableOutside, misaligned, beyondTable, someOverrun, added, removed}
 use Rattle.rules.specs.Link.{linkTo}
 use Rattle.rules.specs.Map.{unfitTarget, clashingTarget, unsignedTarget}

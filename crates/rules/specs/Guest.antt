@@ -4,7 +4,7 @@ use mathlib.Core.List.{List, [], _∷_}
 use Prim.Native.Nat.{ℕ, _+_, _-_, _*_, _/_, _%_, _^_}
 use lib.ListN.{getD, set}
 use Rattle.words.specs.Words.{bits}
-use Rattle.entries.specs.Entries.{Entry, fault, unaccepted, link, section, page, Level, l1, l2, entryAt, isFault, isUnaccepted, rights, first, size, blockTables}
+use Rattle.entries.specs.Entries.{Entry, fault, unaccepted, link, section, page, Level, l1, l2, blockTables, entryAt, isFault, isUnaccepted, rights, first, size}
 use Rattle.rules.specs.Refusals.{Refusal, _if_, answerOf}
 use Rattle.rules.specs.Store.{blockBytes, blockWords, Store, blocks, base, active, misfit, Outcome, settle}
 use Rattle.rules.specs.Tables.{tableBlocks, l2Words, Right, read, write, execute, allows, astray}

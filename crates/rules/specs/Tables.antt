@@ -39,7 +39,7 @@ abbrev pub level : Form → Level
 level sections = l1
 level pages = l2
 
--- "counts once on each of its 256 blocks": the blocks of a target, and of what its first is a multiple
+-- "counts once on each of its 256 blocks", "section target not a multiple of 256": the blocks of a target, and its alignment
 abbrev pub covered : Form → ℕ
 covered sections = sectionBlocks
 covered pages = 1
