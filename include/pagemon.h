@@ -12,6 +12,9 @@
  * No two buffers of a call share a byte, and nothing else writes them during the call. No pointer is NULL, also where the length is 0. Any alignment will do. Any lengths and any contents
  * are safe to lend: a buffer that breaks the rules is refused (PAGEMON_MISFIT) or judged as it stands.
  *
+ * The processor. Entries are judged as ARMv7-A short descriptors with SCTLR.AFE, TRE and WXN 0, TTBCR 0 and DACR 1. TLB and caches are the caller's:
+ * docs/ASSUMPTIONS.md says which accepted call needs which upkeep before the guest runs on. Calls on one region are made one at a time.
+ *
  * Answers. Each call returns 0 (PAGEMON_ACCEPTED) or the lowest refusal number that applies to it. A refused call changes no byte of any buffer. An
  * accepted one changes only what its comment names; every other byte stays as it was. A buffer that a call cannot change is const.
  *

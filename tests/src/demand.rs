@@ -61,7 +61,11 @@ impl Told {
         Told { first, tables: vec![0; blocks], switched: None }
     }
 
-    fn note(&mut self, call: Call) {
+    /// Notes what a step tells, if it was accepted.
+    pub fn note(&mut self, call: Call, given: Given) {
+        if given.answer != 0 {
+            return;
+        }
         let at = call.arguments[0] as usize;
         let mut set = |count: usize, code: u8| self.tables[at - self.first..at - self.first + count].fill(code);
         match call.kind {
@@ -87,9 +91,7 @@ impl Told {
         if call.kind == Kind::Fetch && given.answer == 0 {
             self.fetched(call.arguments[0] as usize, given.byte, store)?;
         }
-        if given.answer == 0 {
-            self.note(call);
-        }
+        self.note(call, given);
         let counts = self.counts(&store.memory);
         self.ledger_agrees(&counts, &store.ledger)?;
         self.never_both(&counts)?;

@@ -1,4 +1,5 @@
 //! The exports of libmonitor.a. Every buffer is lent between canary bytes; canaries and const buffers are looked at after each call.
+use crate::guarded::Guarded;
 use crate::monitor::{Kind, Monitor};
 use std::cell::Cell;
 
@@ -56,54 +57,6 @@ pub fn linked(kind: Kind) -> bool {
     }
 }
 
-const CANARY: u8 = 0xC5;
-const GUARD: usize = 64;
-
-/// A copy of a buffer between canaries.
-struct Guarded {
-    bytes: Vec<u8>,
-    start: usize,
-    length: usize,
-}
-
-impl Guarded {
-    /// The start differs from an aligned address by `shift`.
-    fn new(content: &[u8], shift: usize) -> Guarded {
-        let start = GUARD + shift;
-        let mut bytes = Vec::with_capacity(start + content.len() + GUARD);
-        bytes.resize(start, CANARY);
-        bytes.extend_from_slice(content);
-        bytes.resize(start + content.len() + GUARD, CANARY);
-        Guarded { bytes, start, length: content.len() }
-    }
-
-    fn pointer(&self) -> *const u8 {
-        self.content().as_ptr()
-    }
-
-    fn pointer_mut(&mut self) -> *mut u8 {
-        self.bytes[self.start..self.start + self.length].as_mut_ptr()
-    }
-
-    fn content(&self) -> &[u8] {
-        &self.bytes[self.start..self.start + self.length]
-    }
-
-    fn guarded_content(&self) -> &[u8] {
-        let outside = self.bytes[..self.start].iter().chain(&self.bytes[self.start + self.length..]);
-        assert!(outside.into_iter().all(|byte| *byte == CANARY), "a byte outside of a buffer was changed");
-        self.content()
-    }
-
-    fn give_back(&self, content: &mut [u8]) {
-        content.copy_from_slice(self.guarded_content());
-    }
-
-    fn must_equal(&self, content: &[u8]) {
-        assert!(self.guarded_content() == content, "a const buffer was changed");
-    }
-}
-
 /// The linked library.
 #[derive(Default)]
 pub struct Library {
@@ -112,7 +65,7 @@ pub struct Library {
 
 impl Library {
     /// Buffers start at each alignment in turn.
-    fn guard(&self, content: &[u8]) -> Guarded {
+    fn guard(&self, content: &[u8]) -> Guarded<u8> {
         self.calls.set(self.calls.get() + 1);
         Guarded::new(content, self.calls.get() % 5)
     }

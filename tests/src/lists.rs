@@ -3,7 +3,7 @@ use crate::bytes::word;
 use crate::cases::scene::*;
 use crate::compare::{difference, Comparer, Outcome};
 use crate::demand::Told;
-use crate::monitor::{Call, Kind, BLOCK};
+use crate::monitor::{perform, Call, Given, Kind, Monitor, BLOCK};
 use crate::random::Random;
 use std::collections::VecDeque;
 use Kind::*;
@@ -22,25 +22,20 @@ pub fn run(comparer: &mut Comparer) -> Outcome {
 
 fn list(comparer: &mut Comparer, seed: u64, blocks: usize, steps: usize) -> Outcome {
     let mut lister = Lister::new(seed, blocks);
-    let first = lister.told.first as u32;
-    let begin = Call::new(Begin, &[first]);
-    comparer.step("the list's begin", begin, &mut lister.scene.store)?;
-    for step in 0..steps {
+    for step in 0..=steps {
         let call = lister.next();
         let before = lister.scene.store.memory.clone();
         let name = format!("list {seed} of {blocks} blocks, step {step}");
         let given = comparer.step(&name, call, &mut lister.scene.store)?;
         let told = lister.told.step(call, given, &before, &lister.scene.store);
         told.map_err(|what| difference(&name, call, what))?;
-        if call.kind == Begin && given.answer == 0 {
-            lister.scene.first = call.arguments[0];
-        }
     }
     Ok(())
 }
 
-struct Lister {
-    scene: Scene,
+/// Draws the steps of a list. The first is a begin.
+pub struct Lister {
+    pub scene: Scene,
     told: Told,
     random: Random,
     /// Steps that are already decided.
@@ -49,7 +44,7 @@ struct Lister {
 
 impl Lister {
     /// A memory with data, beginnings of tables and zeros, some of it signed, and a ledger of random bytes.
-    fn new(seed: u64, blocks: usize) -> Lister {
+    pub fn new(seed: u64, blocks: usize) -> Lister {
         let mut random = Random::new(1000 + seed);
         let first = 256 * random.below(5) as u32;
         let mut scene = Scene::new(first, blocks);
@@ -61,7 +56,25 @@ impl Lister {
         if seed % 15 == 7 {
             scene.store.golden.push(1);
         }
-        Lister { scene, told: Told::new(first, blocks), random, plan: VecDeque::new() }
+        Lister::over(scene, random)
+    }
+
+    /// Over a store that begin accepts.
+    pub fn over(scene: Scene, random: Random) -> Lister {
+        let plan = VecDeque::from([Call::new(Begin, &[scene.first])]);
+        Lister { told: Told::new(scene.first, scene.blocks()), scene, random, plan }
+    }
+
+    /// The next steps of the list, as a monitor obeys them.
+    pub fn obeyed_by(&mut self, monitor: &dyn Monitor, steps: usize) -> Vec<(Call, Given)> {
+        let mut obeyed = Vec::with_capacity(steps);
+        for _ in 0..steps {
+            let call = self.next();
+            let given = perform(monitor, call, &mut self.scene.store);
+            self.told.note(call, given);
+            obeyed.push((call, given));
+        }
+        obeyed
     }
 
     fn next(&mut self) -> Call {

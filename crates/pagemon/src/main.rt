@@ -1,14 +1,17 @@
 // Reads records from standard input, obeys them over 16 blocks of zeros with an empty golden image, and prints a line for each ("The program").
 use libc::STDIN_FILENO;
 use libc::STDOUT_FILENO;
+use lines::LONGEST_LINE;
+use steps::records::RECORD_BYTES;
+use transcript::BATCH;
 use transcript::obey_batch;
 ghost use Prim.Native.Nat.{_+_, _^_, _≤_, _<_};
 ghost use Rattle.transcript.specs.Transcript.{batch};
 
 // The bytes of a batch of records, and of its lines with the one of a bad record.
-const INPUT_BYTES: usize = 38912;
+const INPUT_BYTES: usize = RECORD_BYTES * BATCH;
 
-const TEXT_BYTES: usize = 51225;
+const TEXT_BYTES: usize = LONGEST_LINE * (BATCH + 1);
 
 // The ledger's bytes for 16 blocks.
 const LEDGER_BYTES: usize = 264;
@@ -32,7 +35,7 @@ fn obey_some(memory: &mut [u8], ledger: &mut [u8], earlier: u64) -> Progress
     let is_written = io::write_all(STDOUT_FILENO, &text[..end]);
     Progress {
         obeyed: earlier + done.obeyed as u64,
-        ended: !is_written || done.obeyed < transcript::BATCH,
+        ended: !is_written || n < INPUT_BYTES || done.obeyed < BATCH,
     }
 }
 

@@ -7,6 +7,7 @@ use mathlib.Core.Path.{_≡_, refl, _∙_, ap}
 use Prim.Native.Nat.{ℕ, _+_, _-_, _*_, _/_, _%_, _<_}
 use native.Mathlib.Nat.{add-zero, mod-one}
 use native.Mathlib.Omega.{arith}
+use lib.ListN.{length}
 use borrow.Author.Tests.{leb-false}
 use Rattle.words.specs.Words.{bits, word}
 use Rattle.entries.specs.Entries.{Entry, link, section, page, Level, l1, l2, entryAt, isFault, isUnaccepted, rights, first, size, blockTables}
@@ -20,16 +21,17 @@ use Rattle.rules.specs.Map.{mapRefusals, mapOutcome}
 use Rattle.rules.specs.Link.{linkTo, linkRefusals, linkOutcome}
 use Rattle.rules.specs.Guest.{Walk, ends, passes, endsAt, secondEntry, follow, walk}
 use Rattle.rules.proofs.Refusals.{passed, passed-front}
-use Rattle.rules.proofs.Memory.{entryAt-fill, word-fill-other}
+use Rattle.rules.proofs.Memory.{length-fill, entryAt-fill, word-fill-other}
 use Rattle.rules.proofs.State.{Fit, within, settle-accepted}
 use Rattle.rules.proofs.Edits.{one-word}
 use Rattle.rules.proofs.Linking.{Linkable, linkable, link-written}
 use Rattle.rules.proofs.Mapping.{Mappable, mappable, target-inside}
 
--- entry i of the table at block p is x afterwards, and every other word of memory is as before
+-- entry i of the table at block p is x afterwards, and every other word of memory and its length are as before
 pub record Entered (v : Level) (s after : Store) (p i : ℕ) (x : Entry) : Type 0 where
   pub decodes : entryAt v (after .memory) (wordIndex s p i) ≡ x
   pub others : (j : ℕ) → j ≢ wordIndex s p i → word (after .memory) (4 * j) ≡ word (s .memory) (4 * j)
+  pub same-length : length (after .memory) ≡ length (s .memory)
 
 writes-entry : (v : Level) (s : Store) (p i m : ℕ) (x : Entry) → m ≡ 1 → Encodable v x → Fit (base s) (blocks s) s → tableOutside v s p ≡ false → beyondTable v i ≡ false
     → Entered v s (entered s p i m x) p i x
@@ -40,6 +42,7 @@ writes-entry v s p i m x one written fit t2 t4 =
     record {
       decodes = rw add-zero at (entryAt-fill v (s .memory) a m cacheable x written (omega arith) 0 (omega arith));
       others = λ j o. word-fill-other (s .memory) a m (wordOf cacheable x) j (λ l. omega arith);
+      same-length = length-fill (s .memory) a m (wordOf cacheable x);
     }
 
 -- an accepted entry whose place is in the region lets a walk on

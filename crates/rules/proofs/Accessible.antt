@@ -4,7 +4,7 @@ use mathlib.Core.Bool.{true}
 use mathlib.Core.List.{List}
 use mathlib.Core.Logic.{_≢_, _⊎_, inl, inr, ⊎-elim}
 use mathlib.Core.Path.{_≡_, refl, sym, _∙_}
-use Prim.Native.Nat.{ℕ, _+_, _-_, _*_, _/_, _%_, _^_, _<_, _≤_}
+use Prim.Native.Nat.{ℕ, _+_, _-_, _*_, _/_, _%_, _^_, _<_}
 use native.Mathlib.Decide.{ℕ-discrete}
 use native.Mathlib.Omega.{arith}
 use lib.ListN.{set}
@@ -12,21 +12,23 @@ use Rattle.words.proofs.Lists.{getD-part}
 use Rattle.entries.specs.Entries.{Entry, Level, l1, l2, entryAt, rights}
 use Rattle.rules.specs.Refusals.{answerOf}
 use Rattle.rules.specs.Store.{blockBytes, blockWords, Store, blocks, base, Counter, writable, executable}
-use Rattle.rules.specs.Signature.{contents, certified}
+use Rattle.rules.specs.Signature.{contents}
 use Rattle.rules.specs.Tables.{typeD, typeCode, Right, write, execute, allows, grants}
 use Rattle.rules.specs.Guest.{byteIndex, Access, reads, fetches, writes, needed, activeWalk, guestRefusals, written, byteGiven, guestAfter, guestOutcome}
 use Rattle.rules.specs.Steps.{Told}
-use Rattle.rules.specs.Policies.{Accessible, Exclusive, InWorkingSet, Integrity, AltersWritableOnly, KeepsWorkingSet, KeepsWalks, FetchedCode}
+use Rattle.rules.specs.Demand3.{counted}
+use Rattle.rules.specs.Policies.{ActiveSwitchable, Accessible, Exclusive, InWorkingSet, Integrity, AltersWritableOnly, KeepsExecutable, KeepsWorkingSet, KeepsWalks, FetchedCode}
 use Rattle.rules.proofs.Memory.{contents-entry, contents-set}
-use Rattle.rules.proofs.State.{entryOf, recorded, Running, settle-keeps, settle-accepted}
+use Rattle.rules.proofs.State.{entryOf, Running, safe, settle-keeps, settle-accepted}
 use Rattle.rules.proofs.Walk.{Reached, walk-sensible, walk-same}
 use Rattle.rules.proofs.Guests.{Arrived, arrived, arrived-counted, guest-guarded}
 
--- block p of the region is counted by c
-record Counted (s : Store) (c : Counter) (p : ℕ) : Type 0 where
-  low : base s ≤ p
-  high : p < base s + blocks s
-  some-entry : 0 < recorded s c (p - base s)
+-- c counts entries for block p, which is in the region
+record Counted (h : Told) (s : Store) (c : Counter) (p : ℕ) : Type 0 where
+  block : ℕ
+  is : h .B + block ≡ p
+  inside : block < blocks s
+  some-entry : 0 < counted h s c block
 
 not-data : (v : Level) → typeCode v ≢ typeD
 not-data l1 e = omega arith
@@ -35,34 +37,40 @@ not-data l2 e = omega arith
 module _ {h : Told} {s : Store} (r : Running h s) where
   -- What a walk grants at a moment
 
-  accessible-counted : (c : Counter) (right : Right) → ((e : Entry) → grants c e ≡ allows (rights e) right) → (p : ℕ) → Accessible h s right p → Counted s c p
+  accessible-counted : (c : Counter) (right : Right) → ((e : Entry) → grants c e ≡ allows (rights e) right) → (p : ℕ) → Accessible h s right p → Counted h s c p
   accessible-counted c right is p a =
       let end = walk-sensible r (a .address) (a .table) (rw (r .told-base) at (a .switchable)) in
       let e : Reached (base s) (blocks s) (entryOf (base s) h (s .memory)) p (a .rights) = rw (rw (r .told-base) at (a .walked)) at end in
       let granted : grants c (entryOf (base s) h (s .memory) (e .word)) ≡ true = is _ ∙ rw (e .has) (a .allowed) in
-      record { low = e .low; high = e .high; some-entry = arrived-counted r c e granted .0 }
+      let low = e .low in
+      let high = e .high in
+      let based = r .told-base in
+      let within : p - base s < blocks s = omega arith in
+      record { block = p - base s; is = omega arith; inside = within; some-entry = rw (← safe r .honest c (p - base s) within) (arrived-counted r c e granted .0) }
 
-  writable-counted : (p : ℕ) → Accessible h s write p → Counted s writable p
+  writable-counted : (b : ℕ) → Accessible h s write (h .B + b) → 0 < counted h s writable b
   unfolding grants
-  writable-counted = accessible-counted writable write (λ e. refl)
+  writable-counted b a =
+      let w = accessible-counted writable write (λ e. refl) (h .B + b) a in
+      let same : w .block ≡ b = omega (arith, w .is) in
+      rw same at (w .some-entry)
 
-  executable-counted : (p : ℕ) → InWorkingSet h s p → Counted s executable p
+  executable-counted : (p : ℕ) → InWorkingSet h s p → Counted h s executable p
   unfolding grants
   executable-counted = accessible-counted executable execute (λ e. refl)
 
   pub exclusive : Exclusive h s
   exclusive p as-data as-code =
-      let w = writable-counted p as-data in
       let x = executable-counted p as-code in
-      omega (arith, w .low, w .high, x .some-entry, r .consistent .exclusive (p - base s) (omega arith) (w .some-entry))
+      safe r .exclusive (x .block) (x .inside) (writable-counted (x .block) (rw (x .is) as-data)) (x .some-entry)
 
   pub integrity : Integrity h s
   integrity p as-code =
       let x = executable-counted p as-code in
-      let low = x .low in
-      let high = x .high in
-      let is : base s + (p - base s) ≡ p = omega arith in
-      rw (r .told-base) (rw is at (r .consistent .signs (p - base s) (omega arith) (x .some-entry)))
+      rw (x .is) at (safe r .signs (x .block) (x .inside) (x .some-entry))
+
+  pub active : ActiveSwitchable h s
+  active p e = rw (r .told-base) (r .root p e)
 
   -- What a guest step does
 
@@ -74,7 +82,7 @@ module _ {h : Told} {s : Store} (r : Running h s) where
         address = addr;
         level = t .level;
         rights = t .given;
-        switchable = rw (r .told-base) (r .root (t .table) (t .switched));
+        switchable = active (t .table) (t .switched);
         walked = rw (r .told-base) (rw (t .actives) at (t .walked));
         allowed = t .allowed;
       }
@@ -101,15 +109,16 @@ module _ {h : Told} {s : Store} (r : Running h s) where
       settle-keeps (AltersWritableOnly h s) s (guestAfter a s addr) (answerOf (guestRefusals a s addr)) (byteGiven a (s .memory) (byteIndex (base s) addr (activeWalk s addr)))
       (λ b l. inl refl) (λ e. access-alters a addr (arrived r a addr e))
 
-  -- what is written is not executed
+  -- what is written is not executable
+  pub guest-keeps-executable : (a : Access) (addr : ℕ) → KeepsExecutable h s (guestOutcome a s addr .after)
+  guest-keeps-executable a addr b l x =
+      ⊎-elim (λ same. same) (λ as-data. absurd (safe r .exclusive b l (writable-counted b as-data) x)) (guest-alters a addr b l)
+
   pub guest-keeps-working-set : (a : Access) (addr : ℕ) → KeepsWorkingSet h s (guestOutcome a s addr .after)
   guest-keeps-working-set a addr p as-code =
       let x = executable-counted p as-code in
-      let low = x .low in
-      let high = x .high in
-      let based = r .told-base in
-      let is : h .B + (p - h .B) ≡ p = omega arith in
-      ⊎-elim (λ same. same) (λ as-data. absurd (exclusive p (rw is at as-data) as-code)) (guest-alters a addr (p - h .B) (omega arith))
+      let at : p - h .B ≡ x .block = omega (arith, x .is) in
+      rw at (guest-keeps-executable a addr (x .block) (x .inside) (x .some-entry))
 
   -- no table is written, so that every walk reads the entries it read before
   pub guest-keeps-walks : (a : Access) (addr : ℕ) → KeepsWalks h s (guestOutcome a s addr .after)
@@ -125,7 +134,7 @@ module _ {h : Told} {s : Store} (r : Running h s) where
 
   -- what is fetched is executed
   fetches-code : (addr : ℕ) → Arrived h s fetches addr → FetchedCode h s addr (byteGiven fetches (s .memory) (byteIndex (base s) addr (activeWalk s addr)))
-  unfolding byteGiven byteIndex needed certified
+  unfolding byteGiven byteIndex needed
   fetches-code addr t =
       let as-code = arrived-accessible fetches addr t in
       record {

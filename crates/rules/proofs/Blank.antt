@@ -1,11 +1,12 @@
--- A table can be made of any block of a memory without entries: no counter is above 0, and faults are neither unaccepted nor misplaced. So a
--- list of two steps comes to a signed page that one entry alone makes writable.
+-- A table can be made of any block of a memory without entries: no counter is above 0, and faults are neither unaccepted nor misplaced. So
+-- from zeros a list of two steps comes to a signed page that one entry alone makes writable.
 use mathlib.Core.Bool.{Bool, true, false, not, cond}
 use mathlib.Core.List.{List, [], _∷_, _++_}
-use mathlib.Core.Logic.{_≢_, _⊎_, inl, inr}
+use mathlib.Core.Logic.{_⊎_, inl, inr}
+use mathlib.Core.Option.{Option, none}
 use mathlib.Core.Path.{_≡_, refl, sym, _∙_, ap}
 use Prim.Native.Nat.{ℕ, _+_, _-_, _*_, _/_, _%_, _<_, _≤_}
-use native.Mathlib.Nat.{zero-add, mod-one}
+use native.Mathlib.Nat.{zero-add}
 use native.Mathlib.Omega.{arith}
 use lib.ListN.{getD, take}
 use lib.Dec.{eqb}
@@ -23,23 +24,21 @@ use Rattle.rules.specs.Signature.{misfitImage, contents, certified}
 use Rattle.rules.specs.Tables.{typeD, typeCode, tableBlocks, entries, pages, typedEntry, tableEntry, allows, grants, gain, astray}
 use Rattle.rules.specs.Begin.{beginRefusals, beginAfter, beginOutcome}
 use Rattle.rules.specs.Create.{someCount, misplaced, unfitLink, unfitWrite, clash, clashes, unsigned, createRefusals, createOutcome, createAfter}
-use Rattle.rules.specs.Steps.{Step, creates, maps, obey, run, Told, begun, afterAccepted, afterAnswer, history}
+use Rattle.rules.specs.Steps.{Step, creates, maps, obey, run, Told, typed, afterAccepted, afterAnswer, history}
 use Rattle.rules.specs.Demand3.{storeAt, toldAt}
 use Rattle.rules.specs.Policies.{WritableByOneEntry, thereAndBack}
-use Rattle.rules.proofs.Refusals.{Passed, done, step, accepted, accepted-unless}
+use Rattle.rules.proofs.Refusals.{Passed, done, step, accepted}
 use Rattle.rules.proofs.Gains.{gives-fault, gain-none}
-use Rattle.rules.proofs.Ledger.{typed-in, typed-out}
 use Rattle.rules.proofs.State.{recorded, entryOf, Running, settle-accepted}
 use Rattle.rules.proofs.Starting.{begin-accepted}
-use Rattle.rules.proofs.Creating.{create-next}
-use Rattle.rules.proofs.Passing.{settle-answer, inside, no-misfit, right-type}
+use Rattle.rules.proofs.Passing.{settle-answer, Taken, taken, inside, no-misfit, right-type}
 use Rattle.rules.proofs.InTurn.{Alone, map-goes, of-alone}
 use Rattle.rules.proofs.Policies.{policies}
 use Rattle.rules.proofs.Runs.{answers-append}
 use Rattle.rules.proofs.SmallStores.{memory, length-memory, first-entry, rest-entry, ledger, smallStore, fit}
 
 -- every word is a fault, at either level
-abbrev Blank : List ℕ → Type 0
+abbrev pub Blank : List ℕ → Type 0
 Blank memory = (v : Level) (j : ℕ) → entryAt v memory j ≡ fault
 
 blank-typed : (memory : List ℕ) → Blank memory → (t j : ℕ) → typedEntry t memory j ≡ fault
@@ -86,68 +85,9 @@ module _ {h : Told} {s : Store} (r : Running h s) (blank : Blank (s .memory)) wh
         (step (any-avoids (λ i. misplaced v s p (entry i)) (entries v) (λ i _. rw (blank v _) refl))
         (step no-clash (step none-unsigned done)))))))))
 
-    pub create-accepted : createOutcome v (h .golden) s p .answer ≡ 0
-    unfolding createOutcome
-    create-accepted =
-        let k = answerOf (createRefusals v (h .golden) s p) in
-        let is = settle-answer k s (createAfter v s p) 0 in
-        is ∙ accepted-unless 13 _ create-passes (λ z. create-next v p r .not-13 (is ∙ z))
-
--- A page mapped writable by one entry
-
--- an L2 table is made of block p, and its entry i maps block t to be read and written
-abbrev pub tableAndPage : ℕ → ℕ → ℕ → List Step
-tableAndPage p i t = creates l2 p ∷ maps pages p i t 3 ∷ []
-
-module _ {h : Told} {s : Store} (r : Running h s) (blank : Blank (s .memory)) (image : misfitImage (h .golden) ≡ false) (p i t : ℕ) (index : i < entries l2)
-    (table-in : (h .B ≤ p) × (p < h .B + blocks s)) (page-in : (h .B ≤ t) × (t < h .B + blocks s)) (apart : p ≢ t)
-    (table-free : h .types p ≡ typeD) (page-free : h .types t ≡ typeD) (signs : certified (h .golden) (h .B) (s .memory) t ≡ true) where
-  created : createOutcome l2 (h .golden) s p .answer ≡ 0
-  created =
-      let based = r .told-base in
-      let (low, high) = table-in in
-      create-accepted r blank l2 p image (omega arith) (omega arith) (mod-one p) (λ k l. let z : p + k ≡ p = omega arith in ap (h .types) z ∙ table-free)
-
-  abbrev typed : Told
-  typed = afterAccepted h (creates l2 p)
-
-  abbrev tabled : Store
-  tabled = createOutcome l2 (h .golden) s p .after
-
-  same-memory : tabled .memory ≡ s .memory
-  unfolding createOutcome
-  same-memory = ap (λ (x : Store). x .memory) (settle-accepted s (createAfter l2 s p) (answerOf (createRefusals l2 (h .golden) s p)) 0 created .1)
-
-  tabled-runs : Running typed tabled
-  unfolding afterAnswer
-  tabled-runs = rw created at (create-next l2 p r .runs)
-
-  tabled-alone : Alone (h .B) typed tabled p i t fault
-  unfolding afterAccepted num
-  tabled-alone =
-      let (low, high) = table-in in
-      let (t-low, t-high) = page-in in
-      let based = tabled-runs .told-base in
-      let same = same-memory in
-      let none : (c : Counter) (b : ℕ) → b < blocks s → recorded tabled c b ≡ 0 = λ c b l. blank-uncounted tabled-runs (rw same-memory blank) c b (rw same-memory l) in
-      record {
-        table-low = low;
-        table-high = rw same-memory high;
-        table = typed-in (h .types) p 1 (typeCode l2) p (omega arith) (omega arith);
-        index = index;
-        low = t-low;
-        high = rw same-memory t-high;
-        free = typed-out (h .types) p 1 (typeCode l2) t (λ l. omega arith) ∙ page-free;
-        signs = rw same-memory signs;
-        holds = rw same-memory (blank l2 (blockWords * (p - h .B) + i));
-        only = rw (gives-fault writable t, gives-fault executable t) (omega (arith, none writable (t - h .B) (omega arith), none executable (t - h .B) (omega arith)));
-        holder-unexecuted = none executable (p - h .B) (omega arith);
-      }
-
-  -- both steps are accepted, and leave what is wanted
-  mapped : (run (h .golden) s (tableAndPage p i t) .answers ≡ (0 ∷ 0 ∷ [])) × WritableByOneEntry typed (run (h .golden) s (tableAndPage p i t) .reached) p i t
-  unfolding run obey afterAccepted
-  mapped = let m = map-goes tabled-runs image readWrite tabled-alone in (rw (created, m .accepted) refl, of-alone (m .runs) (m .alone))
+    pub create-taken : Taken h s (creates v p) (createAfter v s p)
+    unfolding obey createOutcome
+    create-taken = taken r (creates v p) _ (createAfter v s p) refl create-passes
 
 -- Eight blocks of zeros, and the digest of one of them as golden image
 
@@ -157,14 +97,18 @@ signed-by-own-digest block =
     let d = sha256 block in
     rw (length-tabulate (digestByte (hash block)) 32) (ap not (any-avoids (λ j. neqb (getD d j 0) (getD d (digestBytes * 0 + j) 0)) digestBytes (λ j l. same (getD d j 0) (getD d (0 + j) 0) (ap (λ (k : ℕ). getD d k 0) (sym (zero-add j))))))
 
-lawful-digest : (block : List ℕ) → misfitImage (sha256 block) ≡ false
-unfolding misfitImage sha256
-lawful-digest block = rw (length-tabulate (digestByte (hash block)) 32) refl
-
 abbrev pub golden : List ℕ
 golden = sha256 (contents (memory 0) 5)
 
-begins-zeros : beginOutcome (smallStore 0 ledger) 0 .answer ≡ 0
+pub lawful : misfitImage golden ≡ false
+unfolding misfitImage sha256
+lawful = rw (length-tabulate (digestByte (hash (contents (memory 0) 5))) 32) refl
+
+pub page-signed : certified golden 0 (memory 0) 5 ≡ true
+unfolding certified
+page-signed = signed-by-own-digest (contents (memory 0) 5)
+
+pub begins-zeros : beginOutcome (smallStore 0 ledger) 0 .answer ≡ 0
 unfolding beginOutcome
 begins-zeros = settle-answer _ _ _ _ ∙ accepted (step (fit 0 ledger refl) done)
 
@@ -183,20 +127,77 @@ zeros-blank v j = go v (below-or-above 0 j) where
   go l1 (inr h) = let z : j ≡ 0 = omega arith in rw z (first-entry 0 (omega arith) .0)
   go l2 (inr h) = let z : j ≡ 0 = omega arith in rw z (first-entry 0 (omega arith) .1)
 
-two-steps : (run golden started (tableAndPage 0 0 5) .answers ≡ (0 ∷ 0 ∷ [])) × WritableByOneEntry (afterAccepted (begun 0 golden) (creates l2 0)) (run golden started (tableAndPage 0 0 5) .reached) 0 0 5
-unfolding certified
+-- what has been told since the begin, with these types and this table in use
+abbrev pub toldOf : (ℕ → ℕ) → Option ℕ → Told
+toldOf types table = record { B = 0; types = types; table = table; golden = golden }
+
+-- there are still only zeros
+pub record Zeros (types : ℕ → ℕ) (s : Store) : Type 0 where
+  pub runs : Running (toldOf types none) s
+  pub zeros : s .memory ≡ memory 0
+
+pub zeros-started : Zeros (λ b. typeD) started
+zeros-started = record { runs = begin-accepted (smallStore 0 ledger) 0 golden begins-zeros; zeros = started-memory }
+
+module _ {types : ℕ → ℕ} {s : Store} (z : Zeros types s) where
+  pub blank : Blank (s .memory)
+  blank = rw (z .zeros) zeros-blank
+
+  pub eight : blocks s ≡ 8
+  eight = rw (z .zeros, length-memory 0) refl
+
+  pub uncounted : (c : Counter) (b : ℕ) → b < 8 → recorded s c b ≡ 0
+  uncounted c b l = blank-uncounted (z .runs) blank c b (rw eight l)
+
+  pub create-zeros : (v : Level) (p : ℕ) → p + tableBlocks v ≤ 8 → p % tableBlocks v ≡ 0 → ((k : ℕ) → k < tableBlocks v → types (p + k) ≡ typeD)
+      → (obey golden s (creates v p) .answer ≡ 0) × Zeros (typed types p (tableBlocks v) (typeCode v)) (obey golden s (creates v p) .after)
+  unfolding afterAccepted
+  create-zeros v p high aligned free =
+      let based = z .runs .told-base in
+      let c = create-taken (z .runs) blank v p lawful (omega arith) (omega (arith, eight)) aligned free in
+      (c .accepted, record { runs = c .runs; zeros = ap (λ (x : Store). x .memory) (c .leaves) ∙ z .zeros })
+
+-- A page mapped writable by one entry
+
+-- an L2 table is made of block 0, and its entry 0 maps block 5 to be read and written
+abbrev pub tableAndPage : List Step
+tableAndPage = creates l2 0 ∷ maps pages 0 0 5 3 ∷ []
+
+abbrev withL2 : ℕ → ℕ
+withL2 = typed (λ b. typeD) 0 (tableBlocks l2) (typeCode l2)
+
+tabled-alone : {s : Store} → Zeros withL2 s → Alone 0 (toldOf withL2 none) s 0 0 5 fault
+unfolding typed num
+tabled-alone z =
+    let n = eight z in
+    record {
+      table-low = omega arith;
+      table-high = omega arith;
+      table = refl;
+      index = omega arith;
+      low = omega arith;
+      high = omega arith;
+      free = refl;
+      signs = rw (z .zeros) page-signed;
+      holds = blank z l2 0;
+      only = rw (gives-fault writable 5, gives-fault executable 5, uncounted z writable 5 (omega arith), uncounted z executable 5 (omega arith)) refl;
+      holder-unexecuted = uncounted z executable 0 (omega arith);
+    }
+
+two-steps : (run golden started tableAndPage .answers ≡ (0 ∷ 0 ∷ [])) × WritableByOneEntry (toldOf withL2 none) (run golden started tableAndPage .reached) 0 0 5
+unfolding run
 two-steps =
-    mapped (begin-accepted (smallStore 0 ledger) 0 golden begins-zeros) (rw started-memory zeros-blank) (lawful-digest (contents (memory 0) 5)) 0 0 5 (omega arith)
-    (rw (started-memory, length-memory 0) (omega arith)) (rw (started-memory, length-memory 0) (omega arith)) (λ e. omega arith) refl refl
-    (rw started-memory (signed-by-own-digest (contents (memory 0) 5)))
+    let (created, z) = create-zeros zeros-started l2 0 (omega arith) refl (λ k l. refl) in
+    let m = map-goes (z .runs) lawful readWrite (tabled-alone z) in
+    (rw (created, m .accepted) refl, of-alone (m .runs) (m .alone))
 
 -- after two steps there is what `Policies.in-turn` asks for
-pub writable-reached : WritableByOneEntry (toldAt golden 0 started (tableAndPage 0 0 5) 2) (storeAt golden started (tableAndPage 0 0 5) 2) 0 0 5
+pub writable-reached : WritableByOneEntry (toldAt golden 0 started tableAndPage 2) (storeAt golden started tableAndPage 2) 0 0 5
 unfolding history afterAnswer afterAccepted
 writable-reached = let (answers-are, one-entry) = two-steps in rw answers-are one-entry
 
 -- and six steps in a row are accepted
-pub six-accepted : run golden started (tableAndPage 0 0 5 ++ thereAndBack 0 0 5) .answers ≡ (0 ∷ 0 ∷ 0 ∷ 0 ∷ 0 ∷ 0 ∷ [])
+pub six-accepted : run golden started (tableAndPage ++ thereAndBack 0 0 5) .answers ≡ (0 ∷ 0 ∷ 0 ∷ 0 ∷ 0 ∷ 0 ∷ [])
 six-accepted =
-    let back = policies golden (smallStore 0 ledger) 0 begins-zeros (tableAndPage 0 0 5) .in-turn (lawful-digest (contents (memory 0) 5)) 0 0 5 2 writable-reached in
-    answers-append golden started (tableAndPage 0 0 5) (thereAndBack 0 0 5) ∙ rw (two-steps .0, back) refl
+    let back = policies golden (smallStore 0 ledger) 0 begins-zeros tableAndPage .in-turn lawful 0 0 5 2 writable-reached in
+    answers-append golden started tableAndPage (thereAndBack 0 0 5) ∙ rw (two-steps .0, back) refl

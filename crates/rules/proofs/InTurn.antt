@@ -1,7 +1,7 @@
 -- A signed page that one entry alone maps can be made writable and executable in turn: once the entry is gone no counter of the page is
 -- above 0, so that nothing is held against the next one.
 use mathlib.Core.Bool.{Bool, true, false, not, _&&_, and-false}
-use mathlib.Core.List.{List, [], _∷_}
+use mathlib.Core.List.{[], _∷_}
 use mathlib.Core.Logic.{_≢_}
 use mathlib.Core.Path.{_≡_, refl, sym, _∙_, ap, subst}
 use Prim.Native.Nat.{ℕ, _+_, _-_, _*_, _%_, _^_, _<_, _≤_}
@@ -14,25 +14,23 @@ use Rattle.words.proofs.Bounded.{any-avoids, false-unless, and-true-right, same
 use Rattle.entries.specs.Entries.{Entry, fault, page, l2, entryAt, isFault, rights, first, size, covers}
 use Rattle.entries.specs.Written.{wordOf, cacheable}
 use Rattle.entries.proofs.RoundTrip.{Encodable, a-fault, a-page, Grantable, none, read, readWrite, readExecute}
-use Rattle.rules.specs.Refusals.{Refusal, answerOf}
-use Rattle.rules.specs.Store.{blockWords, counterLimit, Store, blocks, base, Counter, writable, executable, counter, typeOf, someBlock, fill, Outcome, settle}
+use Rattle.rules.specs.Store.{blockWords, counterLimit, Store, blocks, base, Counter, writable, executable, counter, typeOf, someBlock, fill}
 use Rattle.rules.specs.Signature.{misfitImage, certified}
 use Rattle.rules.specs.Tables.{typeD, typeCode, entries, pages, wordIndex, tableEntry, write, execute, allows, grants, gives, gain}
 use Rattle.rules.specs.General.{tableOutside, otherType, holder, executableHolder, Change, added, removed, endValue, recounted, occupied, entered}
 use Rattle.rules.specs.Map.{unlawfulRights, unfitTarget, clashingTarget, unsignedTarget, mapRefusals, mapOutcome}
 use Rattle.rules.specs.Unmap.{unmapRefusals, unmapAfter, unmapOutcome}
-use Rattle.rules.specs.Steps.{Step, maps, unmaps, obey, run, Told, afterAccepted, afterAnswer}
+use Rattle.rules.specs.Steps.{Step, maps, unmaps, obey, run, Told, afterAccepted}
 use Rattle.rules.specs.Policies.{WritableByOneEntry, thereAndBack}
-use Rattle.rules.proofs.Refusals.{Passed, done, step, accepted-unless}
+use Rattle.rules.proofs.Refusals.{Passed, done, step}
 use Rattle.rules.proofs.Gains.{gives-fault, gives-within, gain-most}
 use Rattle.rules.proofs.Memory.{length-fill, entryAt-fill, contents-fill, certified-same}
 use Rattle.rules.proofs.Consistent.{Sound, counted, counts-limit}
-use Rattle.rules.proofs.State.{typeAt, recorded, entryOf, Inv, Running, safe, type-told, settle-accepted}
+use Rattle.rules.proofs.State.{typeAt, recorded, entryOf, Inv, Running, safe, type-told}
 use Rattle.rules.proofs.Tables.{entryOf-table}
 use Rattle.rules.proofs.Walk.{place-within}
 use Rattle.rules.proofs.Changes.{end, counter-recounted}
-use Rattle.rules.proofs.Demand3.{step-next}
-use Rattle.rules.proofs.Passing.{settle-answer, inside, one-block, no-misfit, right-type}
+use Rattle.rules.proofs.Passing.{Taken, taken, inside, one-block, no-misfit, right-type}
 use Rattle.rules.proofs.Removals.{none-unaccepted, none-astray}
 
 -- entry i of the L2 block p is e, and no other entry lets the guest write or execute in the signed data block t, nor execute in block p
@@ -197,29 +195,24 @@ pub record Went (h : Told) (s : Store) (call : Step) (p i t : ℕ) (e : Entry) :
   pub runs : Running h (obey (h .golden) s call .after)
   pub alone : Alone (h .B) h (obey (h .golden) s call .after) p i t e
 
--- a call that tells nothing and whose last refusal is 13
-goes : {h : Told} {s : Store} → Running h s → {p i t : ℕ} {e : Entry} (call : Step) (rs : List Refusal) (after : Store) → obey (h .golden) s call ≡ settle (answerOf rs) s after 0
-    → afterAnswer 0 h call ≡ h → (answerOf rs ≢ 13 → answerOf rs ≡ 0) → Alone (base s) h after p i t e → Went h s call p i t e
-goes {h} {s} r {p} {i} {t} {e} call rs after is silent passes alone =
-    let n = step-next r call in
-    let answer-is : obey (h .golden) s call .answer ≡ answerOf rs = ap (λ (o : Outcome). o .answer) is ∙ settle-answer (answerOf rs) s after 0 in
-    let zero-is = passes (λ z. n .not-13 (answer-is ∙ z)) in
-    let accepted = answer-is ∙ zero-is in
-    let after-is : obey (h .golden) s call .after ≡ after = ap (λ (o : Outcome). o .after) is ∙ settle-accepted s after (answerOf rs) 0 (sym (ap (λ (o : Outcome). o .answer) is) ∙ accepted) .1 in
-    record { accepted = accepted; runs = rw (accepted, silent) at (n .runs); alone = rw after-is (subst (λ (b : ℕ). Alone b h after p i t e) (sym (r .told-base)) alone) }
+-- a call that tells nothing
+goes : {h : Told} {s : Store} → Running h s → {call : Step} {after : Store} {p i t : ℕ} {e : Entry} → Taken h s call after → afterAccepted h call ≡ h → Alone (base s) h after p i t e
+    → Went h s call p i t e
+goes {h} r {call} {after} {p} {i} {t} {e} took silent alone =
+    record { accepted = took .accepted; runs = rw silent at (took .runs); alone = rw (took .leaves) (subst (λ (b : ℕ). Alone b h after p i t e) (sym (r .told-base)) alone) }
 
 module _ {h : Told} {s : Store} (r : Running h s) {p i t : ℕ} where
   unmap-goes : {e : Entry} → Alone (h .B) h s p i t e → Went h s (unmaps pages p i) p i t fault
-  unfolding obey unmapOutcome afterAnswer afterAccepted
+  unfolding obey unmapOutcome afterAccepted
   unmap-goes {e} alone =
       let a = subst (λ (b : ℕ). Alone b h s p i t e) (r .told-base) alone in
-      goes r (unmaps pages p i) (unmapRefusals pages s p i) (unmapAfter pages s p i) refl refl (accepted-unless 13 _ (unmap-passes r a)) (unmap-alone r a)
+      goes r (taken r (unmaps pages p i) _ (unmapAfter pages s p i) refl (unmap-passes r a)) refl (unmap-alone r a)
 
   pub map-goes : {q : ℕ} → misfitImage (h .golden) ≡ false → Grantable q → Alone (h .B) h s p i t fault → Went h s (maps pages p i t q) p i t (page t q)
-  unfolding obey mapOutcome afterAnswer afterAccepted
+  unfolding obey mapOutcome afterAccepted
   map-goes {q} image g alone =
       let a = subst (λ (b : ℕ). Alone b h s p i t fault) (r .told-base) alone in
-      goes r (maps pages p i t q) (mapRefusals pages (h .golden) s p i t q) (entered s p i 1 (page t q)) refl refl (accepted-unless 13 _ (map-passes r a image g)) (map-alone r a image g)
+      goes r (taken r (maps pages p i t q) _ (entered s p i 1 (page t q)) refl (map-passes r a image g)) refl (map-alone r a image g)
 
 -- A page that is mapped to be read and written
 

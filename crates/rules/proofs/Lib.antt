@@ -28,4 +28,5 @@ pub mod SmallStores
 pub mod Witnesses
 pub mod TableWitnesses
 pub mod Blank
+pub mod Fetching
 pub mod Edges

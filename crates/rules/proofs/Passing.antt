@@ -1,6 +1,9 @@
--- What passes the tests that many calls share: a running state is lent as the rules want it, and its ledger has the types told.
-use mathlib.Core.Bool.{Bool, false}
-use mathlib.Core.Path.{_≡_, refl, _∙_}
+-- What passes the tests that many calls share: a running state is lent as the rules want it, and its ledger has the types told. A switch and
+-- a guest's access have no others.
+use mathlib.Core.Bool.{Bool, true, false, not}
+use mathlib.Core.List.{List, [], _∷_, _++_}
+use mathlib.Core.Option.{some}
+use mathlib.Core.Path.{_≡_, refl, sym, _∙_, ap}
 use Prim.Native.Nat.{ℕ, zero, suc, _+_, _*_, _%_, _<_, _≤_}
 use native.Mathlib.Nat.{add-zero}
 use native.Mathlib.Omega.{arith}
@@ -9,21 +12,47 @@ use borrow.Author.Tests.{le-ltb}
 use Rattle.words.specs.Bounded.{any, neqb}
 use Rattle.words.proofs.Bounded.{any-avoids, same}
 use Rattle.entries.specs.Entries.{Level, l1}
-use Rattle.rules.specs.Refusals.{answerOf}
-use Rattle.rules.specs.Store.{blockBytes, leastBlocks, mostBlocks, baseAlignment, physicalBlocks, ledgerHeadBytes, ledgerRecordBytes, Store, blocks, base, typeOf, outside, someBlock, misfit, settle}
-use Rattle.rules.specs.Tables.{typeCode, tableBlocks}
+use Rattle.rules.specs.Refusals.{Refusal, _if_, answerOf}
+use Rattle.rules.specs.Store.{blockBytes, leastBlocks, mostBlocks, baseAlignment, physicalBlocks, ledgerHeadBytes, ledgerRecordBytes, Store, blocks, base, active, typeOf, outside, someBlock, misfit, Outcome, settle}
+use Rattle.rules.specs.Tables.{typeCode, tableBlocks, allows}
 use Rattle.rules.specs.General.{otherType}
 use Rattle.rules.specs.Switch.{switchRefusals, switchAfter, switchOutcome}
-use Rattle.rules.specs.Steps.{Told, afterAccepted}
+use Rattle.rules.specs.Guest.{ends, walk, Access, needed, walkRefusals, noActiveTable, activeWalk, guestRefusals, guestAfter, guestOutcome}
+use Rattle.rules.specs.Steps.{Step, switches, obey, Told, afterAccepted, afterAnswer}
 use Rattle.rules.specs.Policies.{Switchable, SwitchesToTables}
-use Rattle.rules.proofs.Refusals.{done, step, passed, accepted}
-use Rattle.rules.proofs.State.{Running, type-told, settle-accepted}
+use Rattle.rules.proofs.Refusals.{Passed, done, step, passed, accepted, accepted-unless}
+use Rattle.rules.proofs.State.{activeWord, Running, type-told, settle-accepted}
 use Rattle.rules.proofs.Starting.{switch-runs}
+use Rattle.rules.proofs.Demand3.{step-next}
 
 pub settle-answer : (k : ℕ) (s after : Store) (byte : ℕ) → settle k s after byte .answer ≡ k
 unfolding settle
 settle-answer zero s after byte = refl
 settle-answer (suc k) s after byte = refl
+
+-- an accepted call: it leaves this store, and the state goes on
+pub record Taken (h : Told) (s : Store) (call : Step) (after : Store) : Type 0 where
+  pub accepted : obey (h .golden) s call .answer ≡ 0
+  pub leaves : obey (h .golden) s call .after ≡ after
+  pub runs : Running (afterAccepted h call) (obey (h .golden) s call .after)
+
+took : {h : Told} {s : Store} → Running h s → (call : Step) (k : ℕ) (after : Store) → obey (h .golden) s call ≡ settle k s after 0 → obey (h .golden) s call .answer ≡ 0
+    → Taken h s call after
+unfolding afterAnswer
+took {h} {s} r call k after is zero-is =
+    record {
+      accepted = zero-is;
+      leaves = ap (λ (o : Outcome). o .after) is ∙ settle-accepted s after k 0 (sym (ap (λ (o : Outcome). o .answer) is) ∙ zero-is) .1;
+      runs = rw zero-is at (step-next r call .runs);
+    }
+
+-- a call passes every test but that of its last refusal, 13, which never arises
+pub taken : {h : Told} {s : Store} → Running h s → (call : Step) {before : List Refusal} (last : Bool) (after : Store)
+    → obey (h .golden) s call ≡ settle (answerOf (before ++ (13 if last ∷ []))) s after 0 → Passed before → Taken h s call after
+taken {h} {s} r call {before} last after is passes =
+    let k = answerOf (before ++ (13 if last ∷ [])) in
+    let answer-is : obey (h .golden) s call .answer ≡ k = ap (λ (o : Outcome). o .answer) is ∙ settle-answer k s after 0 in
+    took r call k after is (answer-is ∙ accepted-unless 13 last passes (λ z. step-next r call .not-13 (answer-is ∙ z)))
 
 -- 2 does not apply
 pub inside : (B n p m : ℕ) → B ≤ p → p + m ≤ B + n → outside B n p m ≡ false
@@ -72,3 +101,18 @@ module _ {h : Told} {s : Store} (r : Running h s) where
         let high : p + tableBlocks l1 ≤ base s + blocks s = rw (r .told-base) at (table .high) in
         settle-answer (answerOf (switchRefusals s p)) s (switchAfter s p) 0
         ∙ accepted (step no-misfit (step (inside (base s) (blocks s) p (tableBlocks l1) low high) (step (same (p % tableBlocks l1) 0 (table .aligned)) (step (right-type l1 p (typeCode l1) low high (table .typed)) done))))
+
+  pub switch-taken : (p : ℕ) → Switchable h s p → Taken h s (switches p) (switchAfter s p)
+  unfolding obey switchOutcome
+  switch-taken p table = took r (switches p) (answerOf (switchRefusals s p)) (switchAfter s p) refl (switch-accepted p .1 table)
+
+  -- the table in use leads to a block with the right that the access needs
+  pub access-accepted : (a : Access) (addr : ℕ) {table : ℕ} {v : Level} {p q : ℕ} → h .table ≡ some table → walk (h .B) (blocks s) (s .memory) table addr ≡ ends v p q
+      → allows q (needed a) ≡ true → guestOutcome a s addr .answer ≡ 0
+  unfolding guestOutcome walkRefusals
+  access-accepted a addr {table} {v} {p} {q} in-use walked allowed =
+      let root = r .root table in-use in
+      let is : active s ≡ table = r .active-is ∙ ap activeWord in-use in
+      let unbarred : noActiveTable s ≡ false = rw (is, inside (base s) (blocks s) table (tableBlocks l1) (root .low) (root .high), same (table % tableBlocks l1) 0 (root .aligned)) refl in
+      let at : activeWalk s addr ≡ ends v p q = rw (is, ← r .told-base) walked in
+      settle-answer (answerOf (guestRefusals a s addr)) s (guestAfter a s addr) _ ∙ rw at (accepted (step no-misfit (step unbarred (step (ap not allowed) done))))

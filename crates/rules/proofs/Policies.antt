@@ -13,12 +13,12 @@ use Rattle.rules.specs.Unmap.{unmapRefusals, unmapAfter, unmapOutcome}
 use Rattle.rules.specs.Guest.{Access, fetches, guestOutcome}
 use Rattle.rules.specs.Steps.{Step, frees, unmaps, accesses, obey, run, Told, begun}
 use Rattle.rules.specs.Demand3.{storeAt}
-use Rattle.rules.specs.Policies.{AltersWritableOnly, KeepsWorkingSet, KeepsWalks, thereAndBack, AtGuestSteps, MeetsSoundEntries, Policies, Policies-hold}
+use Rattle.rules.specs.Policies.{AltersWritableOnly, KeepsExecutable, KeepsWorkingSet, KeepsWalks, thereAndBack, AtGuestSteps, MeetsSoundEntries, Policies, Policies-hold}
 use Rattle.rules.proofs.State.{Running}
 use Rattle.rules.proofs.Starting.{begin-accepted}
 use Rattle.rules.proofs.Demand3.{history-golden, reached, moment}
 use Rattle.rules.proofs.Passing.{settle-answer, switch-accepted}
-use Rattle.rules.proofs.Accessible.{exclusive, integrity, guest-alters, guest-keeps-working-set, guest-keeps-walks, guest-fetches-code}
+use Rattle.rules.proofs.Accessible.{exclusive, integrity, active, guest-alters, guest-keeps-executable, guest-keeps-working-set, guest-keeps-walks, guest-fetches-code}
 use Rattle.rules.proofs.Removals.{free-sound, unmap-sound}
 use Rattle.rules.proofs.InTurn.{in-turn}
 
@@ -44,8 +44,10 @@ module _ (golden : List ℕ) {B : ℕ} {s : Store} (r : Running (begun B golden)
       record {
         exclusive = λ i. exclusive (reached golden refl r steps i);
         integrity = λ i. integrity (reached golden refl r steps i);
+        active = λ i. active (reached golden refl r steps i);
         switches = λ i. switch-accepted (reached golden refl r steps i);
         alters-writable = at-guest-steps AltersWritableOnly (λ h now r. guest-alters r);
+        keeps-executable = at-guest-steps KeepsExecutable (λ h now r. guest-keeps-executable r);
         keeps-working-set = at-guest-steps KeepsWorkingSet (λ h now r. guest-keeps-working-set r);
         keeps-walks = at-guest-steps KeepsWalks (λ h now r. guest-keeps-walks r);
         fetched = λ i addr byte e accepted given.

@@ -1,50 +1,49 @@
 -- Demand 3 holds of what every run leaves and hands out: from an accepted begin on, the run is one of the lists of the theorem.
-use mathlib.Core.List.{List, _∷_, _++_}
-use mathlib.Core.Path.{_≡_, sym, _∙_, ap}
-use Prim.Native.Nat.{ℕ, _+_, _≤_}
+use mathlib.Core.List.{List, [], _∷_, _++_}
+use mathlib.Core.Option.{some, Option·none-ne-some}
+use mathlib.Core.Path.{_≡_, sym, _∙_}
+use Prim.Native.Nat.{ℕ, zero, suc, _+_, _≤_}
 use native.Mathlib.Omega.{arith}
-use lib.ListN.{length, take, drop, getD}
-use lib.Seq.{drop-at, take-append-seam}
+use lib.ListN.{length, take, drop, getElem?}
+use lib.Seq.{take-append-seam}
 use Rattle.words.specs.Lists.{putList}
 use Rattle.words.proofs.Lists.{putList-between}
 use Rattle.rules.specs.Store.{Store}
 use Rattle.rules.specs.Begin.{beginOutcome}
 use Rattle.rules.specs.Steps.{Step, begins, obey, run}
+use Rattle.rules.specs.Demand3.{storeAt}
 use Rattle.rules.proofs.Demand3.{demand3, at-the-end}
 use Rattle.rules.proofs.Runs.{length-answers, length-bytes, reached-append, answers-append, bytes-append}
 use Rattle.steps.specs.Records.{stepsIn, room, ran}
-use Rattle.steps.specs.Upheld.{Upholds}
+use Rattle.steps.specs.Upheld.{Upheld, Upholds}
 use Rattle.steps.proofs.Decoding.{within-room}
 
--- lists that agree behind beginnings of one length agree in what follows
-behind : (n : ℕ) (begin other xs ys : List ℕ) → length begin ≡ n → length other ≡ n → begin ++ xs ≡ other ++ ys → xs ≡ ys
-behind n begin other xs ys p q e = sym (drop-at begin xs n p) ∙ ap (drop n) e ∙ drop-at other ys n q
+module _ (golden : List ℕ) where
+  -- the steps behind an accepted begin are one of the lists of the theorem
+  upheld : (s : Store) (B : ℕ) (steps : List Step) → beginOutcome s B .answer ≡ 0
+      → (let after = beginOutcome s B .after in let r = run golden after steps in Upheld golden B after steps (r .reached) (r .answers) (r .bytes))
+  upheld s B steps accepted =
+      let d = demand3 golden s B accepted steps in
+      record { throughout = d; safe = at-the-end d; fetched = d .fetched; never = d .never }
 
--- the named theorem: of every run, over whatever was lent
-pub run-upholds-demand3 : (golden : List ℕ) (s : Store) (steps : List Step) → Upholds golden s steps (run golden s steps .reached) (run golden s steps .answers) (run golden s steps .bytes)
-unfolding run obey
-run-upholds-demand3 golden s steps B byte earlier later earlierAnswers laterAnswers earlierBytes laterBytes e a al b bl =
-    let at = run golden s earlier .reached in
-    let o = beginOutcome at B in
-    let answers-are : o .answer ∷ run golden (o .after) later .answers ≡ 0 ∷ laterAnswers =
-    behind (length earlier) (run golden s earlier .answers) earlierAnswers _ _ (length-answers golden s earlier) al
-    (sym (answers-append golden s earlier (begins B ∷ later)) ∙ rw (← e) a)
-    in
-    let bytes-are : o .byte ∷ run golden (o .after) later .bytes ≡ byte ∷ laterBytes =
-    behind (length earlier) (run golden s earlier .bytes) earlierBytes _ _ (length-bytes golden s earlier) bl
-    (sym (bytes-append golden s earlier (begins B ∷ later)) ∙ rw (← e) b)
-    in
-    let accepted : o .answer ≡ 0 = ap (λ (xs : List ℕ). getD xs 0 0) answers-are in
-    let said : run golden (o .after) later .answers ≡ laterAnswers = ap (drop 1) answers-are in
-    let given : run golden (o .after) later .bytes ≡ laterBytes = ap (drop 1) bytes-are in
-    let left : run golden s steps .reached ≡ run golden (o .after) later .reached = rw e (reached-append golden s earlier (begins B ∷ later)) in
-    let d = demand3 golden at B accepted later in
-    record {
-      throughout = d;
-      safe = rw (left, ← said) (at-the-end d);
-      fetched = rw (← said, ← given) (d .fetched);
-      never = rw (← said) (d .never);
-    }
+  from-begin : (s : Store) (steps : List Step) (i B : ℕ) → getElem? steps i ≡ some (begins B) → getElem? (run golden s steps .answers) i ≡ some 0
+      → (let r = run golden s steps in
+      Upheld golden B (storeAt golden s steps (suc i)) (drop (suc i) steps) (r .reached) (drop (suc i) (r .answers)) (drop (suc i) (r .bytes)))
+  unfolding run obey
+  from-begin s [] zero B e a = absurd (Option·none-ne-some (begins B) e)
+  from-begin s [] (suc i) B e a = absurd (Option·none-ne-some (begins B) e)
+  from-begin s (step ∷ steps) zero B e a =
+      let is : step ≡ begins B = cc in
+      let accepted : beginOutcome s B .answer ≡ 0 = (let k = rw is at a in cc) in
+      rw is (upheld s B steps accepted)
+  from-begin s (step ∷ steps) (suc i) B e a = from-begin (obey golden s step .after) steps i B e a
+
+  -- the named theorem: demand 3 of what every run leaves and hands out, over whatever was lent
+  pub run-upholds-demand3 : (s : Store) (steps : List Step) → (let r = run golden s steps in Upholds golden s steps (r .reached) (r .answers) (r .bytes))
+  run-upholds-demand3 s steps start before reached i B e a =
+      let all = from-begin start (before ++ steps) i B e in
+      rw (reached, ← reached-append golden start before steps, ← answers-append golden start before steps, ← bytes-append golden start before steps)
+      (all (rw (answers-append golden start before steps, ← reached) a))
 
 -- what stands in an output, over which a list was stored
 standing : (xs vs : List ℕ) (n : ℕ) → n ≡ length vs → n ≤ length xs → take n (putList xs 0 vs) ≡ vs

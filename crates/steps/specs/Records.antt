@@ -49,10 +49,13 @@ short records p = above (p + recordBytes) (length records)
 abbrev pub unmarked : List ℕ → ℕ → Bool
 unmarked records p = neqb (getD records p 0) 0x50 || neqb (getD records (p + 1) 0) 0x54
 
--- "mark 50 54 (hexadecimal), call byte, four argument words"
+-- the call byte's place in a record: "mark 50 54 (hexadecimal), call byte, four argument words"
+abbrev pub callPlace : ℕ
+callPlace = 2
+
 abbrev pub wholeStep : List ℕ → ℕ → Option Step
 wholeStep records p =
-    stepOf (getD records (p + 2) 0) (word records (p + 3)) (word records (p + 7)) (word records (p + 11)) (word records (p + 15))
+    stepOf (getD records (p + callPlace) 0) (word records (p + 3)) (word records (p + 7)) (word records (p + 11)) (word records (p + 15))
 
 -- the step that the record at place p holds, if any
 unfoldable pub stepAt : List ℕ → ℕ → Option Step

@@ -1,12 +1,11 @@
 -- Demand 3 of what a run of a list leaves and hands out ("Lists of steps").
-use mathlib.Core.List.{List, _∷_, _++_}
+use mathlib.Core.List.{List, _++_}
 use mathlib.Core.Logic.{_≢_}
 use mathlib.Core.Option.{some}
 use mathlib.Core.Path.{_≡_}
-use Prim.Native.Nat.{ℕ}
-use lib.ListN.{length, take, getElem?}
+use Prim.Native.Nat.{ℕ, suc}
+use lib.ListN.{take, drop, getElem?}
 use Rattle.rules.specs.Store.{Store}
-use Rattle.rules.specs.Begin.{beginOutcome}
 use Rattle.rules.specs.Guest.{fetches}
 use Rattle.rules.specs.Steps.{Step, begins, accesses, run, begun, history}
 use Rattle.rules.specs.Demand3.{Safe, Fetched, storeAt, Demand3}
@@ -23,11 +22,13 @@ pub record Upheld (golden : List ℕ) (B : ℕ) (s : Store) (steps : List Step) 
   -- of the answers handed out: none is 13 or 24
   pub never : (i k : ℕ) → getElem? answers i ≡ some k → (k ≢ 13) × (k ≢ 24)
 
--- "A list, perhaps empty, starts from what an accepted begin leaves, whatever memory and ledger it was lent": from every accepted begin on
+-- "A list, perhaps empty, starts from what an accepted begin leaves, whatever memory and ledger it was lent": from every accepted begin on, be it
+-- among these steps or among those before, by which a store s was reached
 abbrev pub Upholds : List ℕ → Store → List Step → Store → List ℕ → List ℕ → Type 0
 Upholds golden s steps left answers bytes =
-    (B byte : ℕ) (earlier later : List Step) (earlierAnswers laterAnswers earlierBytes laterBytes : List ℕ)
-    → steps ≡ earlier ++ (begins B ∷ later)
-    → answers ≡ earlierAnswers ++ (0 ∷ laterAnswers) → length earlierAnswers ≡ length earlier
-    → bytes ≡ earlierBytes ++ (byte ∷ laterBytes) → length earlierBytes ≡ length earlier
-    → Upheld golden B (beginOutcome (run golden s earlier .reached) B .after) later left laterAnswers laterBytes
+    (start : Store) (before : List Step) → s ≡ run golden start before .reached
+    → (let all = before ++ steps in
+    let said = run golden start before .answers ++ answers in
+    let given = run golden start before .bytes ++ bytes in
+    (i B : ℕ) → getElem? all i ≡ some (begins B) → getElem? said i ≡ some 0
+    → Upheld golden B (storeAt golden start all (suc i)) (drop (suc i) all) left (drop (suc i) said) (drop (suc i) given))

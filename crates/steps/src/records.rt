@@ -10,6 +10,9 @@ ghost use Rattle.steps.specs.Records.{recordBytes, short, stepAt, stepOf
 
 pub const RECORD_BYTES: usize = 19;
 
+// The call byte's place in a record.
+pub const CALL_PLACE: usize = 2;
+
 const FIRST_MARK: u8 = 0x50;
 
 const SECOND_MARK: u8 = 0x54;
@@ -66,7 +69,7 @@ fn step_in(records: &[u8], at: usize) -> Record
     ensures { λ r. ⌜ held r ≡ wholeStep (now (records .entry)) at ⌝ }
 {
     step_of(
-        records[at + 2],
+        records[at + CALL_PLACE],
         word(records, at + 3),
         word(records, at + 7),
         word(records, at + 11),

@@ -14,7 +14,7 @@ use Rattle.lines.specs.declared.Line.the-variants.{Answer, AnswerWithByte}
 use Rattle.lines.specs.Lines.{textOf, longestLine, fitting}
 use Rattle.lines.specs.Stored.{Stored}
 use Rattle.lines.proofs.Lines.{longest-answer, longest-answer-with-byte, fitting-line, stored-line}
-use Rattle.steps.specs.Records.{recordBytes}
+use Rattle.steps.specs.Records.{recordBytes, callPlace}
 use Rattle.transcript.specs.Transcript.{givesByte, lineOf, transcript}
 
 longest : (call answer byte : ℕ) → call < 2 ^ 8 → answer < 2 ^ 32 → byte < 2 ^ 8 → length (textOf (lineOf call answer byte)) ≤ longestLine
@@ -38,8 +38,8 @@ module _ (records answers bytes text₀ : List ℕ) where
   length-laying l = ap length (l .stored .bytes) ∙ length-putList text₀ 0 _
 
   pub laying-turn : {i : ℕ} {text : List ℕ} {end : ℕ} → Laying i text end → longestLine * (i + 1) ≤ length text₀
-      → getD records (recordBytes * i + 2) 0 < 2 ^ 8 → getD answers i 0 < 2 ^ 32 → getD bytes i 0 < 2 ^ 8
-      → {l : Line} → l ≡ lineOf (getD records (recordBytes * i + 2) 0) (getD answers i 0) (getD bytes i 0)
+      → getD records (recordBytes * i + callPlace) 0 < 2 ^ 8 → getD answers i 0 < 2 ^ 32 → getD bytes i 0 < 2 ^ 8
+      → {l : Line} → l ≡ lineOf (getD records (recordBytes * i + callPlace) 0) (getD answers i 0) (getD bytes i 0)
       → {more : List ℕ} {place : ℕ} → Stored text end (fitting (length text - end) l) more place → Laying (i + 1) more place
   unfolding transcript
   laying-turn {i} {text} {end} g h hc ha hb {l} e {more} {place} s =

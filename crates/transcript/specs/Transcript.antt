@@ -8,7 +8,7 @@ use Rattle.lines.specs.declared.Line.{Line}
 use Rattle.lines.specs.declared.Line.the-variants.{Answer, AnswerWithByte, Bad}
 use Rattle.lines.specs.Lines.{textOf}
 use Rattle.rules.specs.Steps.{Step}
-use Rattle.steps.specs.Records.{recordBytes, stepsIn}
+use Rattle.steps.specs.Records.{recordBytes, callPlace, stepsIn}
 
 -- "12 read", "14 fetch"
 abbrev pub givesByte : ℕ → Bool
@@ -22,7 +22,7 @@ lineOf call answer byte = cond (eqb answer 0 && givesByte call) (AnswerWithByte 
 unfoldable pub transcript : List ℕ → List ℕ → List ℕ → ℕ → List ℕ
 transcript records answers bytes zero = []
 transcript records answers bytes (suc n) =
-    transcript records answers bytes n ++ textOf (lineOf (getD records (recordBytes * n + 2) 0) (getD answers n 0) (getD bytes n 0))
+    transcript records answers bytes n ++ textOf (lineOf (getD records (recordBytes * n + callPlace) 0) (getD answers n 0) (getD bytes n 0))
 
 -- "A wrong mark, a call byte not listed or a short record prints `bad`, a space and the number of records obeyed before it, and ends": what is
 -- printed of a list of which n records are obeyed, with so many obeyed earlier

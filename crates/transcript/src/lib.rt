@@ -3,6 +3,7 @@ use lines::LONGEST_LINE;
 use lines::Line;
 use lines::put_line;
 use steps::pagemon_run;
+use steps::records::CALL_PLACE;
 use steps::records::RECORD_BYTES;
 ghost use mathlib.Core.Path.{_≡_};
 ghost use Prim.Native.Nat.{_+_, _*_, _^_, _<_, _≤_};
@@ -48,7 +49,7 @@ pub fn put_lines(records: &[u8], answers: &[u32], bytes: &[u8], n: usize, text: 
 {
     let mut end = 0;
     for i in 0..n {
-        let line = line_of(records[RECORD_BYTES * i + 2], answers[i], bytes[i]);
+        let line = line_of(records[RECORD_BYTES * i + CALL_PLACE], answers[i], bytes[i]);
         end = put_line(text, end, line);
     }
     end

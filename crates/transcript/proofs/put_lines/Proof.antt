@@ -3,7 +3,7 @@ use borrow.Author.Needs.{needs}
 use mathlib.Core.Path.{_≡_, refl}
 use Prim.Native.Nat.{_+_, _-_, _*_, _≤_}
 use native.Mathlib.Omega.{arith}
-use Rattle.steps.specs.Records.{recordBytes}
+use Rattle.steps.specs.Records.{recordBytes, callPlace}
 use Rattle.transcript.proofs.Laying.{Laying, laying-starts, length-laying, laying-turn}
 use Rattle.transcript.proofs.put_lines.Statement.{statement}
 use Rattle.transcript.proofs.put_lines.Tie as tie
@@ -22,7 +22,7 @@ loop-again c =
     let at = c .before .before .before .before .before .before .before .before .before .loop in (
       omega arith,
       laying-turn _ _ _ _ (at .inv .1) (omega arith)
-          (omega (arith, c .before .before .before .before .before .before .before .before .before .before .before .before .before .shared-slice-known .given (recordBytes * at .i + 2)))
+          (omega (arith, c .before .before .before .before .before .before .before .before .before .before .before .before .before .shared-slice-known .given (recordBytes * at .i + callPlace)))
           (omega (arith, c .before .before .before .before .before .before .before .before .before .before .before .before .shared-slice-known2 .given (at .i)))
           (omega (arith, c .before .before .before .before .before .before .before .before .before .before .before .shared-slice-known3 .given (at .i)))
           (c .before .before .before .before .line-of .ensures) (c .before .before .put-line .ensures),
