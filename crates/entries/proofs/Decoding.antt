@@ -12,31 +12,7 @@ use Rattle.words.proofs.Bounded.{and-true}
 use Rattle.words.proofs.Fields.{bits-low}
 use Rattle.words.proofs.Words.{word-putWord-other}
 use Rattle.entries.specs.Rights.{acceptedAP, rightsOf}
-use Rattle.entries.specs.Entries.{
-  Entry,
-  fault,
-  unaccepted,
-  link,
-  section,
-  page,
-  Level,
-  l1,
-  l2,
-  sectionAP,
-  sectionXN,
-  pageAP,
-  pageXN,
-  isLinkForm,
-  isSectionForm,
-  isPageForm,
-  l1Entry,
-  l2Entry,
-  entryAt,
-  codeOf,
-  pageCode,
-  first,
-  size,
-}
+use Rattle.entries.specs.Entries.{Entry, fault, unaccepted, link, section, page, Level, l1, l2, sectionAP, sectionXN, pageAP, pageXN, isLinkForm, isSectionForm, isPageForm, l1Entry, l2Entry, entryAt, codeOf, pageCode, first, size, sectionBlocks}
 
 -- Words of level 2
 
@@ -122,10 +98,10 @@ l1Entry-link w h =
     let form = eqb-true (bits w 0 2) 0b01 (and-true (eqb (bits w 0 2) 0b01) (eqb (bits w 2 8) 0) h .0) in
     rw (h, form)
 
-pub l1Entry-section : (w : ℕ) → isSectionForm w ≡ true → l1Entry w ≡ section (256 * bits w 20 12) (rightsOf (sectionAP w) (sectionXN w))
+pub l1Entry-section : (w : ℕ) → isSectionForm w ≡ true → l1Entry w ≡ section (sectionBlocks * bits w 20 12) (rightsOf (sectionAP w) (sectionXN w))
 unfolding l1Entry isLinkForm isSectionForm
 l1Entry-section w h = go (eqb (bits w 0 2) 0b10) refl where
-  go : (t : Bool) → eqb (bits w 0 2) 0b10 ≡ t → l1Entry w ≡ section (256 * bits w 20 12) (rightsOf (sectionAP w) (sectionXN w))
+  go : (t : Bool) → eqb (bits w 0 2) 0b10 ≡ t → l1Entry w ≡ section (sectionBlocks * bits w 20 12) (rightsOf (sectionAP w) (sectionXN w))
   go true e = rw (h, eqb-true (bits w 0 2) 0b10 e)
   go false e = absurd (false≢true (rw e at h))
 
@@ -179,7 +155,7 @@ entryAt-fits l1 mem j =
     let w = word mem (4 * j) in
     fits-cond (eqb (bits w 0 2) 0) fault _ (omega arith)
     (fits-cond (isLinkForm w) (link (bits w 10 22)) _ (omega arith)
-    (fits-cond (isSectionForm w) (section (256 * bits w 20 12) (rightsOf (sectionAP w) (sectionXN w))) unaccepted (omega arith) (omega arith)))
+    (fits-cond (isSectionForm w) (section (sectionBlocks * bits w 20 12) (rightsOf (sectionAP w) (sectionXN w))) unaccepted (omega arith) (omega arith)))
 entryAt-fits l2 mem j =
     let w = word mem (4 * j) in
     fits-cond (eqb (bits w 0 2) 0) fault _ (omega arith)

@@ -13,45 +13,24 @@ use Rattle.words.proofs.Bounded.{and-true, any-none}
 use Rattle.words.proofs.Fields.{bits-low, bits-above, bits-below}
 use Rattle.words.proofs.Words.{word-putWord-same}
 use Rattle.entries.specs.Rights.{mayRead, mayWrite, mayExecute, rightsOf}
-use Rattle.entries.specs.Entries.{
-  Entry,
-  link,
-  section,
-  page,
-  Level,
-  l1,
-  l2,
-  sectionAP,
-  sectionXN,
-  isLinkForm,
-  isSectionForm,
-  isPageForm,
-  l1Entry,
-  l2Entry,
-  HoldsWord,
-  entryAt,
-  codeOf,
-  pageCode,
-}
-use Rattle.entries.specs.Written.{
-  pageBits,
-  sectionBits,
-  wordOf,
-  IsBlock,
-  IsSectionStart,
-  IsTablePlace,
-  Grantable,
-  none,
-  read,
-  readWrite,
-  readExecute,
-  Encodable,
-  a-fault,
-  a-link,
-  a-section,
-  a-page,
-}
+use Rattle.entries.specs.Entries.{Entry, fault, link, section, page, Level, l1, l2, sectionAP, sectionXN, isLinkForm, isSectionForm, isPageForm, l1Entry, l2Entry, sectionBlocks, entryAt, codeOf, pageCode}
+use Rattle.entries.specs.Written.{pageBits, sectionBits, wordOf}
 use Rattle.entries.proofs.Decoding.{entryOfCode-page, l2Entry-code, l1Entry-link, l1Entry-section, isSectionForm-low, sectionRights-low}
+use Rattle.entries.specs.Needs.{HoldsWord, IsBlock, IsSectionStart, IsTablePlace}
+
+-- the rights for which low bits are listed: "for rights 0, 1, 3, 5"
+pub data Grantable : ℕ → Type 0 where
+  none : Grantable 0
+  read : Grantable 1
+  readWrite : Grantable 3
+  readExecute : Grantable 5
+
+-- what an accepted map, link or unmap leaves at its index, at each level
+pub data Encodable : Level → Entry → Type 0 where
+  a-fault : {v : Level} → Encodable v fault
+  a-link : {p : ℕ} → IsTablePlace p → Encodable l1 (link p)
+  a-section : {b r : ℕ} → IsSectionStart b → Grantable r → Encodable l1 (section b r)
+  a-page : {b r : ℕ} → IsBlock b → Grantable r → Encodable l2 (page b r)
 
 -- The low bits that are written, at every kind: a word takes seven bits of a kind, so a computed test over 128 kinds says it for all.
 
@@ -129,16 +108,16 @@ module _ (kind : ℕ) where
   unfolding wordOf
   section-reads-back {b} {r} h g =
       let low = sectionBits kind r in
-      let w = 2 ^ 20 * (b / 256) + low in
+      let w = 2 ^ 20 * (b / sectionBlocks) + low in
       let (form, granted, bound) = section-low kind g in
-      let below : bits w 0 20 ≡ low = bits-below 20 (b / 256) bound in
-      let place : bits w 20 12 ≡ b / 256 = bits-above 20 (b / 256) bound 12 (omega arith) in
-      let whole : 2 ^ 12 * b ≡ 2 ^ 20 * (b / 256) = omega arith in
-      let start : 256 * (b / 256) ≡ b = omega arith in
+      let below : bits w 0 20 ≡ low = bits-below 20 (b / sectionBlocks) bound in
+      let place : bits w 20 12 ≡ b / sectionBlocks = bits-above 20 (b / sectionBlocks) bound 12 (omega arith) in
+      let whole : 2 ^ 12 * b ≡ 2 ^ 20 * (b / sectionBlocks) = omega arith in
+      let start : sectionBlocks * (b / sectionBlocks) ≡ b = omega arith in
       let isForm : isSectionForm w ≡ true = sym (isSectionForm-low w) ∙ ap isSectionForm below ∙ form in
       let rights : rightsOf (sectionAP w) (sectionXN w) ≡ r =
       sym (sectionRights-low w) ∙ ap (λ n. rightsOf (sectionAP n) (sectionXN n)) below ∙ granted in
-      rw whole (l1Entry-section w isForm ∙ ap₂ section (ap (λ n. 256 * n) place ∙ start) rights)
+      rw whole (l1Entry-section w isForm ∙ ap₂ section (ap (λ n. sectionBlocks * n) place ∙ start) rights)
 
   pub link-reads-back : {p : ℕ} → IsTablePlace p → l1Entry (wordOf kind (link p)) ≡ link p
   unfolding wordOf isLinkForm

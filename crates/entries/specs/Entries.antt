@@ -1,9 +1,9 @@
 -- What a word of a page table means: ARMv7-A short descriptors in the accepted forms ("Entries").
 use mathlib.Core.Bool.{Bool, true, false, cond, _&&_}
 use mathlib.Core.List.{List}
-use Prim.Native.Nat.{ℕ, _+_, _*_, _/_, _≤_}
-use lib.Dec.{eqb, leb, ltb}
-use lib.ListN.{length}
+use Prim.Native.Nat.{ℕ, _+_, _*_, _/_}
+use lib.Dec.{eqb}
+use Rattle.words.specs.Bounded.{among}
 use Rattle.words.specs.Words.{bits, word}
 use Rattle.entries.specs.Rights.{acceptedAP, rightsOf}
 
@@ -20,6 +20,14 @@ pub data Entry : Type 0 where
 pub data Level : Type 0 where
   l1 : Level
   l2 : Level
+
+-- "An L2 block holds four L2 tables"
+abbrev pub blockTables : ℕ
+blockTables = 4
+
+-- "A section counts once on each of its 256 blocks"
+abbrev pub sectionBlocks : ℕ
+sectionBlocks = 256
 
 -- "section: .. AP = bits 15, 11, 10, XN = bit 4"
 abbrev pub sectionAP : ℕ → ℕ
@@ -55,7 +63,7 @@ unfoldable pub l1Entry : ℕ → Entry
 l1Entry w =
     cond (eqb (bits w 0 2) 0b00) fault
     (cond (isLinkForm w) (link (bits w 10 22))
-    (cond (isSectionForm w) (section (256 * bits w 20 12) (rightsOf (sectionAP w) (sectionXN w)))
+    (cond (isSectionForm w) (section (sectionBlocks * bits w 20 12) (rightsOf (sectionAP w) (sectionXN w)))
     unaccepted))
 
 -- an L2 entry by its word: a page's place is bits 31..12
@@ -64,10 +72,6 @@ l2Entry w =
     cond (eqb (bits w 0 2) 0b00) fault
     (cond (isPageForm w) (page (bits w 12 20) (rightsOf (pageAP w) (pageXN w)))
     unaccepted)
-
--- word j lies in the memory
-abbrev pub HoldsWord : List ℕ → ℕ → Type 0
-HoldsWord mem j = 4 * j + 4 ≤ length mem
 
 -- word j of the memory, read as an entry of a table of this level
 unfoldable pub entryAt : Level → List ℕ → ℕ → Entry
@@ -116,11 +120,11 @@ rights (link p) = 0
 rights (section b r) = r
 rights (page b r) = r
 
--- an entry's place: its first block, and how many there are. Four L2 tables share a block.
+-- an entry's place: its first block, and how many there are
 unfoldable pub first : Entry → ℕ
 first fault = 0
 first unaccepted = 0
-first (link p) = p / 4
+first (link p) = p / blockTables
 first (section b r) = b
 first (page b r) = b
 
@@ -128,9 +132,9 @@ unfoldable pub size : Entry → ℕ
 size fault = 0
 size unaccepted = 0
 size (link p) = 1
-size (section b r) = 256
+size (section b r) = sectionBlocks
 size (page b r) = 1
 
--- the entry leads to block b, or lets the guest reach it: "a section counts once on each of its 256 blocks"
+-- block b lies in the entry's place
 unfoldable pub covers : Entry → ℕ → Bool
-covers e b = leb (first e) b && ltb b (first e + size e)
+covers e b = among (first e) (size e) b

@@ -1,10 +1,9 @@
 -- The words that the monitor writes ("Entries"): place, access bits and memory kind.
 use mathlib.Core.Bool.{cond}
-use mathlib.Core.Path.{_≡_}
-use Prim.Native.Nat.{ℕ, _+_, _-_, _*_, _%_, _^_, _<_}
+use Prim.Native.Nat.{ℕ, _+_, _-_, _*_, _^_}
 use lib.Dec.{eqb}
 use Rattle.words.specs.Words.{bits}
-use Rattle.entries.specs.Entries.{Entry, fault, unaccepted, link, section, page, Level, l1, l2}
+use Rattle.entries.specs.Entries.{Entry, fault, unaccepted, link, section, page}
 
 -- a memory kind is B, C, TEX (3 bits), S and nG from bit 0 on; C and B are set in every word of the list below
 abbrev pub cacheable : ℕ
@@ -31,27 +30,3 @@ wordOf kind unaccepted = 0
 wordOf kind (link p) = 2 ^ 10 * p + 1
 wordOf kind (section b r) = 2 ^ 12 * b + sectionBits kind r
 wordOf kind (page b r) = 2 ^ 12 * b + pageBits kind r
-
--- places of 32-bit physical addresses: of a block, of a section by its first block, of an L2 table by its 1 KiB place
-abbrev pub IsBlock : ℕ → Type 0
-IsBlock b = b < 2 ^ 20
-
-abbrev pub IsSectionStart : ℕ → Type 0
-IsSectionStart b = (b < 2 ^ 20) × (b % 256 ≡ 0)
-
-abbrev pub IsTablePlace : ℕ → Type 0
-IsTablePlace p = p < 2 ^ 22
-
--- the rights for which low bits are listed: "for rights 0, 1, 3, 5"
-pub data Grantable : ℕ → Type 0 where
-  none : Grantable 0
-  read : Grantable 1
-  readWrite : Grantable 3
-  readExecute : Grantable 5
-
--- what an accepted map, link or unmap leaves at its index, at each level
-pub data Encodable : Level → Entry → Type 0 where
-  a-fault : {v : Level} → Encodable v fault
-  a-link : {p : ℕ} → IsTablePlace p → Encodable l1 (link p)
-  a-section : {b r : ℕ} → IsSectionStart b → Grantable r → Encodable l1 (section b r)
-  a-page : {b r : ℕ} → IsBlock b → Grantable r → Encodable l2 (page b r)

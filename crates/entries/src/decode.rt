@@ -1,13 +1,13 @@
 // What a word of a table means: ARMv7-A short descriptors in the accepted forms.
-use crate::entry::BLOCKS_OF_A_SECTION;
 use crate::entry::EXECUTE;
 use crate::entry::Entry;
 use crate::entry::Level;
 use crate::entry::Mapping;
 use crate::entry::READ;
+use crate::entry::SECTION_BLOCKS;
 use crate::entry::WRITE;
 use crate::table::page_rights_at;
-use words::WORD_SIZE;
+use words::WORD_BYTES;
 ghost use mathlib.Core.Path.{_≡_};
 ghost use mathlib.Core.Bool.{true};
 ghost use mathlib.Core.List.{List};
@@ -15,23 +15,9 @@ ghost use Prim.Native.Nat.{ℕ, _+_, _*_, _<_};
 ghost use Rattle.words.specs.Bounded.{num};
 ghost use Rattle.words.specs.Words.{bits, word};
 ghost use Rattle.entries.specs.Rights.{mayRead, mayWrite, mayExecute, rightsOf};
-ghost use Rattle.entries.specs.Entries.{
-  HoldsWord,
-  entryAt,
-  isLinkForm,
-  isPageForm,
-  isSectionForm,
-  l1,
-  l1Entry,
-  l2,
-  l2Entry,
-  pageAP,
-  pageXN,
-  sectionAP,
-  sectionXN,
-  sectionZeros,
-};
+ghost use Rattle.entries.specs.Entries.{entryAt, isLinkForm, isPageForm, isSectionForm, l1, l1Entry, l2, l2Entry, pageAP, pageXN, sectionAP, sectionBlocks, sectionXN, sectionZeros};
 ghost use Rattle.entries.specs.Meaning.{levelOf, meaning};
+ghost use Rattle.entries.specs.Needs.{HoldsWord};
 
 const FAULT_FORM: u32 = 0b00;
 
@@ -128,11 +114,11 @@ fn is_section_form(w: u32) -> bool
 
 // The first block and the rights of a section.
 fn section_mapping(w: u32) -> Mapping
-    ensures { λ r. ⌜ (r .first ≡ 256 * bits w 20 12) × (r .rights ≡ rightsOf (sectionAP w) (sectionXN w)) ⌝ }
+    ensures { λ r. ⌜ (r .first ≡ sectionBlocks * bits w 20 12) × (r .rights ≡ rightsOf (sectionAP w) (sectionXN w)) ⌝ }
 {
     let rights = rights_of(section_ap(w), section_xn(w));
     Mapping {
-        first: BLOCKS_OF_A_SECTION * words::bits(w, 20, 12),
+        first: SECTION_BLOCKS * words::bits(w, 20, 12),
         rights,
     }
 }
@@ -205,7 +191,7 @@ pub fn l1_entry_at(mem: &[u8], j: usize) -> Entry
     requires { ⌜ HoldsWord (now mem) j ⌝ }
     ensures { λ r. ⌜ meaning r ≡ entryAt l1 (now (mem .entry)) j ⌝ }
 {
-    entry_of(Level::L1, words::word(mem, WORD_SIZE * j))
+    entry_of(Level::L1, words::word(mem, WORD_BYTES * j))
 }
 
 // Word j of the memory, read as an entry of an L2 table.
@@ -213,7 +199,7 @@ pub fn l2_entry_at(mem: &[u8], j: usize) -> Entry
     requires { ⌜ HoldsWord (now mem) j ⌝ }
     ensures { λ r. ⌜ meaning r ≡ entryAt l2 (now (mem .entry)) j ⌝ }
 {
-    entry_of(Level::L2, words::word(mem, WORD_SIZE * j))
+    entry_of(Level::L2, words::word(mem, WORD_BYTES * j))
 }
 
 // Word j of the memory, read as an entry of a table of this level. Faults, which fill most tables, are told apart first: a test that is small enough to be
@@ -222,7 +208,7 @@ pub fn entry_at(level: Level, mem: &[u8], j: usize) -> Entry
     requires { ⌜ HoldsWord (now mem) j ⌝ }
     ensures { λ r. ⌜ meaning r ≡ entryAt (levelOf level) (now (mem .entry)) j ⌝ }
 {
-    let w = words::word(mem, WORD_SIZE * j);
+    let w = words::word(mem, WORD_BYTES * j);
     if words::bits(w, 0, 2) == FAULT_FORM {
         return Entry::Fault;
     }

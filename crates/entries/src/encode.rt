@@ -2,16 +2,8 @@
 ghost use mathlib.Core.Path.{_≡_};
 ghost use Prim.Native.Nat.{ℕ, _<_, _^_};
 ghost use Rattle.entries.specs.Entries.{link, page, section};
-ghost use Rattle.entries.specs.Written.{
-  IsBlock,
-  IsSectionStart,
-  IsTablePlace,
-  pageBits,
-  sectionBits,
-  wordOf,
-  writtenAP,
-  writtenXN,
-};
+ghost use Rattle.entries.specs.Written.{pageBits, sectionBits, wordOf, writtenAP, writtenXN};
+ghost use Rattle.entries.specs.Needs.{IsBlock, IsSectionStart, IsTablePlace};
 
 // The memory kind of all that is written: C and B set.
 pub const CACHEABLE: u32 = 0b11;
@@ -46,9 +38,9 @@ const SECTION_TEX: u32 = 0x1000;
 
 const SECTION_S: u32 = 0x10000;
 
-const BLOCK_SIZE: u32 = 4096;
+const BLOCK_BYTES: u32 = signature::golden::BLOCK_BYTES as u32;
 
-const TABLE_SIZE: u32 = 1024;
+const TABLE_BYTES: u32 = 1024;
 
 // The access bits for rights in a call: bit 9 of a page's AP and bit 15 of a section's stay clear.
 fn written_ap(rights: u32) -> u32
@@ -98,7 +90,7 @@ pub fn page_word(kind: u32, block: u32, rights: u32) -> u32
     requires { ⌜ IsBlock block ⌝ }
     ensures { λ r. ⌜ r ≡ wordOf kind (page block rights) ⌝ }
 {
-    BLOCK_SIZE * block + page_bits(kind, rights)
+    BLOCK_BYTES * block + page_bits(kind, rights)
 }
 
 // The word of a section that starts at a block.
@@ -106,7 +98,7 @@ pub fn section_word(kind: u32, block: u32, rights: u32) -> u32
     requires { ⌜ IsSectionStart block ⌝ }
     ensures { λ r. ⌜ r ≡ wordOf kind (section block rights) ⌝ }
 {
-    BLOCK_SIZE * block + section_bits(kind, rights)
+    BLOCK_BYTES * block + section_bits(kind, rights)
 }
 
 // The word of a link to an L2 table: "the table's address + 1".
@@ -114,5 +106,5 @@ pub fn link_word(place: u32) -> u32
     requires { ⌜ IsTablePlace place ⌝ }
     ensures { λ r. ⌜ ((kind : ℕ) → r ≡ wordOf kind (link place)) ⌝ }
 {
-    TABLE_SIZE * place + LINK
+    TABLE_BYTES * place + LINK
 }

@@ -32,9 +32,9 @@ pub const WRITE: u32 = 2;
 
 pub const EXECUTE: u32 = 4;
 
-pub const TABLES_OF_A_BLOCK: u32 = 4;
+pub const BLOCK_TABLES: u32 = 4;
 
-pub const BLOCKS_OF_A_SECTION: u32 = 256;
+pub const SECTION_BLOCKS: u32 = 256;
 
 pub fn is_fault(e: Entry) -> bool
     ensures { λ r. ⌜ r ≡ isFault (meaning e) ⌝ }
@@ -91,7 +91,7 @@ pub fn first(e: Entry) -> u32
     match e {
         Entry::Fault => 0,
         Entry::Unaccepted => 0,
-        Entry::Link(place) => place / TABLES_OF_A_BLOCK,
+        Entry::Link(place) => place / BLOCK_TABLES,
         Entry::Section(m) => m.first,
         Entry::Page(m) => m.first,
     }
@@ -105,7 +105,7 @@ pub fn size(e: Entry) -> u32
         Entry::Fault => 0,
         Entry::Unaccepted => 0,
         Entry::Link(_) => 1,
-        Entry::Section(_) => BLOCKS_OF_A_SECTION,
+        Entry::Section(_) => SECTION_BLOCKS,
         Entry::Page(_) => 1,
     }
 }

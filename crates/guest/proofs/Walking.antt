@@ -7,9 +7,9 @@ use Prim.Native.Nat.{ℕ, zero, suc, _+_, _*_, _-_, _/_, _%_, _<_, _≤_}
 use native.Mathlib.Nat.{mod-lt}
 use native.Mathlib.Omega.{arith}
 use Rattle.words.specs.Words.{bits}
-use Rattle.entries.specs.Entries.{Entry, fault, unaccepted, link, section, page, Level, l1, l2, entryAt, isFault, isUnaccepted, first, size}
+use Rattle.entries.specs.Entries.{Entry, fault, unaccepted, link, section, page, Level, l1, l2, entryAt, isFault, isUnaccepted, first, size, blockTables}
 use Rattle.rules.specs.Store.{blockBytes, blockWords}
-use Rattle.rules.specs.Tables.{astray, blockTables}
+use Rattle.rules.specs.Tables.{astray}
 use Rattle.rules.specs.Guest.{Walk, stops, ends, passes, endsAt, secondEntry, follow, walk}
 use Rattle.rules.proofs.Walk.{size-above, place-within}
 use Rattle.guest.specs.Needs.{stopsOr, NumberAt, Sound}

@@ -1,9 +1,6 @@
 // The guest's accesses: all is judged before the byte is read or stored.
 use crate::walk::Walk;
 use crate::walk::walk_tables;
-use entries::entry::EXECUTE;
-use entries::entry::READ;
-use entries::entry::WRITE;
 use ledger::layout::BLOCK_BYTES;
 use ledger::layout::active;
 use ledger::layout::base;
@@ -14,6 +11,8 @@ use ledger::refusals::RIGHT_LACKING;
 use ledger::region::blocks;
 use ledger::region::is_misfit_stored;
 use ledger::region::is_outside;
+use ledger::rights::Right;
+use ledger::rights::allows;
 use ledger::table::L1_BLOCKS;
 ghost use mathlib.Core.Bool.{_||_};
 ghost use mathlib.Core.Path.{_≡_};
@@ -26,7 +25,7 @@ ghost use Rattle.rules.specs.Tables.{allows, tableBlocks};
 ghost use Rattle.guest.specs.Meaning.{accessOf, answerIn, arrived, byteIn, judged, memoryIn, walkOf};
 ghost use Rattle.guest.specs.Needs.{InMemory, Sound};
 
-pub enum Access {
+enum Access {
     Read,
     Fetch,
     // The byte to be stored.
@@ -34,7 +33,7 @@ pub enum Access {
 }
 
 // A refusal with its number, or the place in memory of the byte to be read or stored.
-pub enum Verdict {
+enum Verdict {
     Refused(u32),
     Allowed(usize),
 }
@@ -43,9 +42,9 @@ fn is_allowed(access: Access, rights: u32) -> bool
     ensures { λ r. ⌜ r ≡ allows rights (needed (accessOf access)) ⌝ }
 {
     match access {
-        Access::Read => rights / READ % 2 == 1,
-        Access::Fetch => rights / EXECUTE % 2 == 1,
-        Access::Write(_) => rights / WRITE % 2 == 1,
+        Access::Read => allows(rights, Right::Read),
+        Access::Fetch => allows(rights, Right::Execute),
+        Access::Write(_) => allows(rights, Right::Write),
     }
 }
 

@@ -2,9 +2,9 @@
 use entries::decode::l1_entry_at;
 use entries::decode::l2_entry_at;
 use entries::entry;
+use entries::entry::BLOCK_TABLES;
 use entries::entry::Entry;
 use entries::entry::Level;
-use entries::entry::TABLES_OF_A_BLOCK;
 use ledger::layout::BLOCK_BYTES;
 use ledger::layout::BLOCK_WORDS;
 use ledger::refusals::ACCEPTED;
@@ -81,7 +81,7 @@ fn through_link(place: u32, memory: &[u8], first: u32, n: usize, address: u32) -
             number,
         };
     }
-    let table = (place - TABLES_OF_A_BLOCK * first) as usize;
+    let table = (place - BLOCK_TABLES * first) as usize;
     let e = l2_entry_at(
         memory,
         L2_WORDS * table + words::bits(address, 12, 8) as usize,

@@ -15,7 +15,7 @@ use Rattle.words.specs.Words.{word}
 use Rattle.words.proofs.Bounded.{both-ways, below-or-above, last-or-below, window-or-outside, false-unless, and-true-left, and-true-right, or-false-left, any-none, any-hit, any-found, and-false-right}
 use Rattle.words.proofs.Words.{Bytes, bytes-putWord}
 use Rattle.entries.specs.Entries.{Entry, first, size}
-use Rattle.rules.specs.Store.{head, width, basePlace, limit, Store, blocks, base, recordWord, putRecordWord, typePlace, Counter, writable, executable, linked, counterPlace, someCounter, counter, someBlock, outside, misfit, lent}
+use Rattle.rules.specs.Store.{ledgerHeadBytes, ledgerRecordBytes, basePlace, counterLimit, Store, blocks, base, recordWord, putRecordWord, typeWord, Counter, writable, executable, linked, counterWord, someCounter, counter, someBlock, outside, misfit, lent}
 use Rattle.rules.specs.Tables.{grants, gives, gain, astray}
 use Rattle.rules.specs.General.{Change, added, removed, endValue, endsBelow, overruns, someOverrun, recounted}
 use Rattle.rules.proofs.Gains.{gives-within, gives-at, grants-size, gain-most, gain-hit, gain-none, gain-found}
@@ -28,25 +28,25 @@ use Rattle.ledger.proofs.Records.{recordWord-bound, bytes-recount, ledg
 -- One counter
 
 -- the code's tests of a counter that changes by one
-pub overruns-added : (old : ℕ) → leb limit old ≡ overruns added old 1
+pub overruns-added : (old : ℕ) → leb counterLimit old ≡ overruns added old 1
 unfolding overruns endsBelow endValue
 overruns-added old =
-    ⊎-elim (λ (h : old < limit). lt-leb limit old h ∙ sym (le-ltb limit (old + 1) (omega arith)))
-    (λ (h : limit ≤ old). le-leb limit old h ∙ sym (lt-ltb limit (old + 1) (omega arith)))
-    (below-or-above old limit)
+    ⊎-elim (λ (h : old < counterLimit). lt-leb counterLimit old h ∙ sym (le-ltb counterLimit (old + 1) (omega arith)))
+    (λ (h : counterLimit ≤ old). le-leb counterLimit old h ∙ sym (lt-ltb counterLimit (old + 1) (omega arith)))
+    (below-or-above old counterLimit)
 
 pub overruns-none : (old : ℕ) → old ≡ 0 → true ≡ overruns removed old 1
 unfolding overruns endsBelow endValue
 overruns-none old e = rw (lt-ltb old 1 (omega arith))
 
-pub overruns-removed : (old : ℕ) → old ≢ 0 → ltb limit (old - 1) ≡ overruns removed old 1
+pub overruns-removed : (old : ℕ) → old ≢ 0 → ltb counterLimit (old - 1) ≡ overruns removed old 1
 unfolding overruns endsBelow endValue
 overruns-removed old h = rw (le-ltb old 1 (omega arith))
 
 pub changeable : (d : Change) (old : ℕ) → overruns d old 1 ≡ false → Changeable d old
 unfolding overruns endsBelow endValue
-changeable added old e = let l = ltb-false limit (old + 1) e in omega arith
-changeable removed old e = let l = ltb-false old 1 (or-false-left (ltb old 1) (ltb limit (old - 1)) e) in omega arith
+changeable added old e = let l = ltb-false counterLimit (old + 1) e in omega arith
+changeable removed old e = let l = ltb-false old 1 (or-false-left (ltb old 1) (ltb counterLimit (old - 1)) e) in omega arith
 
 -- a counter that changes by nothing, and by one
 endValue-none : (d : Change) (old : ℕ) → endValue d old 0 ≡ old
@@ -56,7 +56,7 @@ endValue-none removed old = omega arith
 
 overruns-some : (d : Change) (old k : ℕ) → overruns d old k ≡ true → 0 < k
 unfolding overruns
-overruns-some d old k e = ltb-true 0 k (and-true-left (above k 0) (endsBelow d old k || above (endValue d old k) limit) e)
+overruns-some d old k e = ltb-true 0 k (and-true-left (above k 0) (endsBelow d old k || above (endValue d old k) counterLimit) e)
 
 changeable-bound : (d : Change) (old : ℕ) → old < 2 ^ 32 → Changeable d old → endValue d old 1 < 2 ^ 32
 unfolding endValue
@@ -73,9 +73,9 @@ module _ (c : Counter) (e : Entry) (p : ℕ) where
 
 -- Overruns of one entry
 
-module _ (d : Change) (s : Store) (e : Entry) (length-is : length (s .ledger) ≡ head + width * blocks s) (placed : Placed (s .ledger) e) where
+module _ (d : Change) (s : Store) (e : Entry) (length-is : length (s .ledger) ≡ ledgerHeadBytes + ledgerRecordBytes * blocks s) (placed : Placed (s .ledger) e) where
   abbrev at : Counter → ℕ → Bool
-  at c b = overruns d (recordWord (s .ledger) (counterPlace c) b) 1
+  at c b = overruns d (recordWord (s .ledger) (counterWord c) b) 1
 
   abbrev region : ℕ → Bool
   region b = someCounter (λ c. overruns d (counter c s (base s + b)) (gain 1 (λ k. e) c (base s + b)))
@@ -119,7 +119,7 @@ module _ (d : Change) (led : List ℕ) (k b : ℕ) where
   pub length-changed : (m : ℕ) → length (changed d led k b m) ≡ length led
   length-changed m = changed-keeps length m (λ l j v lo hi. length-putRecordWord l k j v)
 
-  pub head-changed : (m a : ℕ) → a + 4 ≤ head → word (changed d led k b m) a ≡ word led a
+  pub head-changed : (m a : ℕ) → a + 4 ≤ ledgerHeadBytes → word (changed d led k b m) a ≡ word led a
   head-changed m a h = changed-keeps (λ l. word l a) m (λ l j v lo hi. head-putRecordWord l k j v a h)
 
   -- a word of another record, or another word of these
@@ -141,10 +141,10 @@ module _ (d : Change) (led : List ℕ) (k b : ℕ) where
   bytes-changed : (m : ℕ) → Bytes led → Bytes (changed d led k b m)
   unfolding changed putRecordWord
   bytes-changed zero h = h
-  bytes-changed (suc m) h = bytes-putWord (changed d led k b m) (head + width * (b + m) + 4 * k) _ (bytes-changed m h)
+  bytes-changed (suc m) h = bytes-putWord (changed d led k b m) (ledgerHeadBytes + ledgerRecordBytes * (b + m) + 4 * k) _ (bytes-changed m h)
 
 -- a word that is changed
-recordWord-changed : (d : Change) (led : List ℕ) (k b m n j : ℕ) → InRecord k → Bytes led → length led ≡ head + width * n → b + m ≤ n
+recordWord-changed : (d : Change) (led : List ℕ) (k b m n j : ℕ) → InRecord k → Bytes led → length led ≡ ledgerHeadBytes + ledgerRecordBytes * n → b + m ≤ n
     → ((i : ℕ) → i < m → Changeable d (recordWord led k (b + i))) → b ≤ j → j < b + m → recordWord (changed d led k b m) k j ≡ endValue d (recordWord led k j) 1
 unfolding changed
 recordWord-changed d led k b zero n j ik h e f all lo hi = let z : ⊥ = omega arith in absurd z
@@ -160,73 +160,73 @@ recordWord-changed d led k b (suc m) n j ik h e f all lo hi =
 -- One counter of an entry
 
 module _ (d : Change) (led : List ℕ) (c : Counter) (e : Entry) where
-  counter-keeps : {A : Type 0} (P : List ℕ → A) → P (changed d led (counterPlace c) (recordOf led e) (size e)) ≡ P led → P (changedCounter d led c e) ≡ P led
+  counter-keeps : {A : Type 0} (P : List ℕ → A) → P (changed d led (counterWord c) (recordOf led e) (size e)) ≡ P led → P (changedCounter d led c e) ≡ P led
   unfolding changedCounter
   counter-keeps P h = go (grants c e) where
-    go : (t : Bool) → P (cond t (changed d led (counterPlace c) (recordOf led e) (size e)) led) ≡ P led
+    go : (t : Bool) → P (cond t (changed d led (counterWord c) (recordOf led e) (size e)) led) ≡ P led
     go true = h
     go false = refl
 
   pub length-changedCounter : length (changedCounter d led c e) ≡ length led
-  length-changedCounter = counter-keeps length (length-changed d led (counterPlace c) (recordOf led e) (size e))
+  length-changedCounter = counter-keeps length (length-changed d led (counterWord c) (recordOf led e) (size e))
 
-  pub head-changedCounter : (a : ℕ) → a + 4 ≤ head → word (changedCounter d led c e) a ≡ word led a
-  head-changedCounter a h = counter-keeps (λ l. word l a) (head-changed d led (counterPlace c) (recordOf led e) (size e) a h)
+  pub head-changedCounter : (a : ℕ) → a + 4 ≤ ledgerHeadBytes → word (changedCounter d led c e) a ≡ word led a
+  head-changedCounter a h = counter-keeps (λ l. word l a) (head-changed d led (counterWord c) (recordOf led e) (size e) a h)
 
   -- every other word of a record
-  pub other-changedCounter : (k b : ℕ) → InRecord k → counterPlace c ≢ k → recordWord (changedCounter d led c e) k b ≡ recordWord led k b
-  other-changedCounter k b ik o = counter-keeps (λ l. recordWord l k b) (recordWord-changed-other d led (counterPlace c) (recordOf led e) (size e) k b (counter-in-record c) ik (λ lo hi. o))
+  pub other-changedCounter : (k b : ℕ) → InRecord k → counterWord c ≢ k → recordWord (changedCounter d led c e) k b ≡ recordWord led k b
+  other-changedCounter k b ik o = counter-keeps (λ l. recordWord l k b) (recordWord-changed-other d led (counterWord c) (recordOf led e) (size e) k b (counter-in-record c) ik (λ lo hi. o))
 
   bytes-changedCounter : Bytes led → Bytes (changedCounter d led c e)
   unfolding changedCounter
   bytes-changedCounter h = go (grants c e) where
-    go : (t : Bool) → Bytes (cond t (changed d led (counterPlace c) (recordOf led e) (size e)) led)
-    go true = bytes-changed d led (counterPlace c) (recordOf led e) (size e) h
+    go : (t : Bool) → Bytes (cond t (changed d led (counterWord c) (recordOf led e) (size e)) led)
+    go true = bytes-changed d led (counterWord c) (recordOf led e) (size e) h
     go false = h
 
   -- the counter itself
-  own-changedCounter : (n j : ℕ) → Bytes led → length led ≡ head + width * n → Placed led e → Countable d led c e → j < n
-      → recordWord (changedCounter d led c e) (counterPlace c) j ≡ endValue d (recordWord led (counterPlace c) j) (gain 1 (λ k. e) c (word led basePlace + j))
+  own-changedCounter : (n j : ℕ) → Bytes led → length led ≡ ledgerHeadBytes + ledgerRecordBytes * n → Placed led e → Countable d led c e → j < n
+      → recordWord (changedCounter d led c e) (counterWord c) j ≡ endValue d (recordWord led (counterWord c) j) (gain 1 (λ k. e) c (word led basePlace + j))
   unfolding changedCounter
   own-changedCounter n j h l placed countable small = go (grants c e) refl where
     old : ℕ
-    old = recordWord led (counterPlace c) j
+    old = recordWord led (counterWord c) j
 
     spared : gives c e (word led basePlace + j) ≡ false → old ≡ endValue d old (gain 1 (λ k. e) c (word led basePlace + j))
     spared g = rw (gain-zero c e (word led basePlace + j) g) (sym (endValue-none d old))
 
-    go : (t : Bool) → grants c e ≡ t → recordWord (cond t (changed d led (counterPlace c) (recordOf led e) (size e)) led) (counterPlace c) j ≡ endValue d old (gain 1 (λ k. e) c (word led basePlace + j))
+    go : (t : Bool) → grants c e ≡ t → recordWord (cond t (changed d led (counterWord c) (recordOf led e) (size e)) led) (counterWord c) j ≡ endValue d old (gain 1 (λ k. e) c (word led basePlace + j))
     go true g =
         let (lo, hi) = placed c g in
         ⊎-elim
         (λ (w : (recordOf led e ≤ j) × (j < recordOf led e + size e)).
         rw (gain-one c e (word led basePlace + j) (gives-at c e (word led basePlace + j) g (omega arith) (omega arith)))
-        (recordWord-changed d led (counterPlace c) (recordOf led e) (size e) n j (counter-in-record c) h l (omega arith) (countable g) (w .0) (w .1)))
+        (recordWord-changed d led (counterWord c) (recordOf led e) (size e) n j (counter-in-record c) h l (omega arith) (countable g) (w .0) (w .1)))
         (λ (o : recordOf led e ≤ j → recordOf led e + size e ≤ j).
-        recordWord-changed-other d led (counterPlace c) (recordOf led e) (size e) (counterPlace c) j (counter-in-record c) (counter-in-record c) (λ a b _. omega (arith, o a))
+        recordWord-changed-other d led (counterWord c) (recordOf led e) (size e) (counterWord c) j (counter-in-record c) (counter-in-record c) (λ a b _. omega (arith, o a))
         ∙ spared (false-unless (gives c e (word led basePlace + j)) (λ t. let (_, a, b) = gives-within c e (word led basePlace + j) t in omega (arith, o (omega arith)))))
         (window-or-outside j (recordOf led e) (size e))
     go false g = spared (false-unless (gives c e (word led basePlace + j)) (λ t. false≢true (sym g ∙ gives-within c e (word led basePlace + j) t .0)))
 
 -- All counters of an entry
 
-module _ (d : Change) (s : Store) (length-is : length (s .ledger) ≡ head + width * blocks s) (bytes : Bytes (s .ledger)) (e : Entry) where
+module _ (d : Change) (s : Store) (length-is : length (s .ledger) ≡ ledgerHeadBytes + ledgerRecordBytes * blocks s) (bytes : Bytes (s .ledger)) (e : Entry) where
   -- a ledger that differs from the store's in counters only
   record Reached (led : List ℕ) : Type 0 where
     lengths : length led ≡ length (s .ledger)
-    heads : (a : ℕ) → a + 4 ≤ head → word led a ≡ word (s .ledger) a
-    types : (b : ℕ) → recordWord led typePlace b ≡ recordWord (s .ledger) typePlace b
+    heads : (a : ℕ) → a + 4 ≤ ledgerHeadBytes → word led a ≡ word (s .ledger) a
+    types : (b : ℕ) → recordWord led typeWord b ≡ recordWord (s .ledger) typeWord b
     all-bytes : Bytes led
 
   -- and not in this one
   abbrev Keeps : Counter → List ℕ → Type 0
-  Keeps c led = (b : ℕ) → recordWord led (counterPlace c) b ≡ recordWord (s .ledger) (counterPlace c) b
+  Keeps c led = (b : ℕ) → recordWord led (counterWord c) b ≡ recordWord (s .ledger) (counterWord c) b
 
   reach : {led : List ℕ} (c : Counter) → Reached led → Reached (changedCounter d led c e)
   reach {led} c r = record {
     lengths = length-changedCounter d led c e ∙ r .lengths;
     heads = λ a h. head-changedCounter d led c e a h ∙ r .heads a h;
-    types = λ b. other-changedCounter d led c e typePlace b (omega arith) (λ q. counter-not-type c (sym q)) ∙ r .types b;
+    types = λ b. other-changedCounter d led c e typeWord b (omega arith) (λ q. counter-not-type c (sym q)) ∙ r .types b;
     all-bytes = bytes-changedCounter d led c e (r .all-bytes);
   }
 
@@ -239,7 +239,7 @@ module _ (d : Change) (s : Store) (length-is : length (s .ledger) ≡ head + wid
     )
 
     -- and what it makes of it
-    made : {led : List ℕ} (c : Counter) → Reached led → Keeps c led → (b : ℕ) → b < blocks s → recordWord (changedCounter d led c e) (counterPlace c) b ≡ end d s 1 (λ k. e) c b
+    made : {led : List ℕ} (c : Counter) → Reached led → Keeps c led → (b : ℕ) → b < blocks s → recordWord (changedCounter d led c e) (counterWord c) b ≡ end d s 1 (λ k. e) c b
     made {led} c r same b l =
         let (p, q) = ready c r same in
         rw (same b, r .heads basePlace (omega arith)) at (own-changedCounter d led c e (blocks s) b (r .all-bytes) (r .lengths ∙ length-is) p q l)
@@ -254,8 +254,8 @@ module _ (d : Change) (s : Store) (length-is : length (s .ledger) ≡ head + wid
     led3 = changedCounter d led2 linked e
 
     -- a counter passes over the change of another
-    passes : (led : List ℕ) (c o : Counter) → counterPlace o ≢ counterPlace c → (b : ℕ) → recordWord (changedCounter d led o e) (counterPlace c) b ≡ recordWord led (counterPlace c) b
-    passes led c o h b = other-changedCounter d led o e (counterPlace c) b (counter-in-record c) h
+    passes : (led : List ℕ) (c o : Counter) → counterWord o ≢ counterWord c → (b : ℕ) → recordWord (changedCounter d led o e) (counterWord c) b ≡ recordWord led (counterWord c) b
+    passes led c o h b = other-changedCounter d led o e (counterWord c) b (counter-in-record c) h
 
     reached0 : Reached (s .ledger)
     reached0 = record { lengths = refl; heads = λ a h. refl; types = λ b. refl; all-bytes = bytes }
@@ -278,13 +278,13 @@ module _ (d : Change) (s : Store) (length-is : length (s .ledger) ≡ head + wid
     pub ready-linked : Placed led2 e × Countable d led2 linked e
     ready-linked = ready linked reached2 keeps2
 
-    ends : (c : Counter) (b : ℕ) → b < blocks s → recordWord led3 (counterPlace c) b ≡ end d s 1 (λ k. e) c b
+    ends : (c : Counter) (b : ℕ) → b < blocks s → recordWord led3 (counterWord c) b ≡ end d s 1 (λ k. e) c b
     ends writable b l = passes led2 writable linked (λ q. omega arith) b ∙ passes led1 writable executable (λ q. omega arith) b ∙ made writable reached0 (λ b. refl) b l
     ends executable b l = passes led2 executable linked (λ q. omega arith) b ∙ made executable reached1 keeps1 b l
     ends linked b l = made linked reached2 keeps2 b l
 
     end-bound : (c : Counter) (b : ℕ) → b < blocks s → end d s 1 (λ k. e) c b < 2 ^ 32
-    end-bound c b l = rw (← ends c b l) (recordWord-bound led3 (counterPlace c) b (reach linked reached2 .all-bytes))
+    end-bound c b l = rw (← ends c b l) (recordWord-bound led3 (counterWord c) b (reach linked reached2 .all-bytes))
 
     -- changing its counters one after the other recounts the ledger with the entry
     pub changed-recounted : led3 ≡ recounted d s 1 (λ k. e)
@@ -314,7 +314,7 @@ pub countable : (d : Change) (s : Store) (e : Entry) → misfit s (base s) ≡ f
 unfolding counterOverruns
 countable d s e t u o c g i l =
     let none = no-counter (λ c. counterOverruns d (s .ledger) c e) (overruns-entry d s e (fits s (base s) t .ledger-length) (placed s e t u) ∙ o) c in
-    let q : ℕ → Bool = λ i. overruns d (recordWord (s .ledger) (counterPlace c) (recordOf (s .ledger) e + i)) 1 in
+    let q : ℕ → Bool = λ i. overruns d (recordWord (s .ledger) (counterWord c) (recordOf (s .ledger) e + i)) 1 in
     changeable d _ (any-none q (size e) (and-false-right (grants c e) (any (size e) q) none g) i l)
 
 -- The code, over plain variables: a test of one counter after the other, and a change of one after the other
@@ -350,20 +350,20 @@ unfolding endValue
 endValue-least added old j k b h = omega arith
 endValue-least removed old j k b h = omega arith
 
-module _ (d : Change) (s : Store) (length-is : length (s .ledger) ≡ head + width * blocks s) (bytes : Bytes (s .ledger)) (e : ℕ → Entry) (i : ℕ)
+module _ (d : Change) (s : Store) (length-is : length (s .ledger) ≡ ledgerHeadBytes + ledgerRecordBytes * blocks s) (bytes : Bytes (s .ledger)) (e : ℕ → Entry) (i : ℕ)
     (bound : (c : Counter) (b : ℕ) → b < blocks s → end d s (i + 1) e c b < 2 ^ 32) where
   abbrev reached : Store
   reached = lent (s .memory) (recounted d s i e)
 
-  counter-reached : (c : Counter) (b : ℕ) → b < blocks s → recordWord (recounted d s i e) (counterPlace c) b ≡ end d s i e c b
+  counter-reached : (c : Counter) (b : ℕ) → b < blocks s → recordWord (recounted d s i e) (counterWord c) b ≡ end d s i e c b
   counter-reached c b l =
       counter-recounted d s i e length-is c b l
-      (endValue-least d _ _ (gain 1 (λ k. e i) c (base s + b)) (recordWord-bound (s .ledger) (counterPlace c) b bytes) (rw (gain-more i e c (base s + b)) at (bound c b l)))
+      (endValue-least d _ _ (gain 1 (λ k. e i) c (base s + b)) (recordWord-bound (s .ledger) (counterWord c) b bytes) (rw (gain-more i e c (base s + b)) at (bound c b l)))
 
   ends-reached : (c : Counter) (b : ℕ) → b < blocks s → end d reached 1 (λ k. e i) c b ≡ end d s (i + 1) e c b
   ends-reached c b l =
       rw (counter-reached c b l, head-recounted d s i e basePlace (omega arith), gain-more i e c (base s + b))
-      (endValue-more d (recordWord (s .ledger) (counterPlace c) b) (gain i e c (base s + b)) (gain 1 (λ k. e i) c (base s + b)))
+      (endValue-more d (recordWord (s .ledger) (counterWord c) b) (gain i e c (base s + b)) (gain 1 (λ k. e i) c (base s + b)))
 
   -- recounting with i entries, and then with the next, recounts with i + 1
   pub recounted-more : recounted d reached 1 (λ k. e i) ≡ recounted d s (i + 1) e
@@ -380,10 +380,10 @@ module _ (d : Change) (s : Store) (length-is : length (s .ledger) ≡ head + wid
       ∙ sym (counter-recounted d s (i + 1) e length-is c b l (bound c b l)))
 
 -- recounting with no entry leaves the ledger
-pub recounted-none : (d : Change) (s : Store) (e : ℕ → Entry) → length (s .ledger) ≡ head + width * blocks s → Bytes (s .ledger) → recounted d s 0 e ≡ s .ledger
+pub recounted-none : (d : Change) (s : Store) (e : ℕ → Entry) → length (s .ledger) ≡ ledgerHeadBytes + ledgerRecordBytes * blocks s → Bytes (s .ledger) → recounted d s 0 e ≡ s .ledger
 recounted-none d s e length-is bytes =
-    let same : (c : Counter) (b : ℕ) → end d s 0 e c b ≡ recordWord (s .ledger) (counterPlace c) b = λ c b. rw (gain-none 0 e c (base s + b) (λ i l. let z : ⊥ = omega arith in absurd z)) (endValue-none d _) in
+    let same : (c : Counter) (b : ℕ) → end d s 0 e c b ≡ recordWord (s .ledger) (counterWord c) b = λ c b. rw (gain-none 0 e c (base s + b) (λ i l. let z : ⊥ = omega arith in absurd z)) (endValue-none d _) in
     ledger-ext (recounted d s 0 e) (s .ledger) (blocks s) (length-recounted d s 0 e ∙ length-is) length-is (bytes-recount (s .ledger) (blocks s) (end d s 0 e) bytes) bytes
     (λ a h. head-recounted d s 0 e a h)
     (λ b l. type-recounted d s 0 e b)
-    (λ c b l. counter-recounted d s 0 e length-is c b l (rw (same c b) (recordWord-bound (s .ledger) (counterPlace c) b bytes)) ∙ same c b)
+    (λ c b l. counter-recounted d s 0 e length-is c b l (rw (same c b) (recordWord-bound (s .ledger) (counterWord c) b bytes)) ∙ same c b)

@@ -9,12 +9,12 @@ use lib.Seq.{ext-getD}
 use Rattle.words.specs.Words.{bits, word}
 use Rattle.words.proofs.Bounded.{below-or-above}
 use Rattle.words.proofs.Words.{Bytes, word-bound, bytes-putWord, getD-putWord-same, putWord-self}
-use Rattle.rules.specs.Store.{head, width, recordWord, putRecordWord, recount, typePlace, Counter, writable, executable, linked, counterPlace}
+use Rattle.rules.specs.Store.{ledgerHeadBytes, ledgerRecordBytes, recordWord, putRecordWord, recount, typeWord, Counter, writable, executable, linked, counterWord}
 
 -- the words of a ledger of bytes, and its bytes when it is recounted
 pub recordWord-bound : (led : List ℕ) (k b : ℕ) → Bytes led → recordWord led k b < 2 ^ 32
 unfolding recordWord
-recordWord-bound led k b h = word-bound led (head + width * b + 4 * k) h
+recordWord-bound led k b h = word-bound led (ledgerHeadBytes + ledgerRecordBytes * b + 4 * k) h
 
 pub bytes-recount : (led : List ℕ) (n : ℕ) (f : Counter → ℕ → ℕ) → Bytes led → Bytes (recount led n f)
 unfolding recount putRecordWord
@@ -32,10 +32,10 @@ words-ext xs ys n bx by h = ext-getD 0 xs ys n (λ i l. at-byte i (i / 4) (i % 4
       rw e (byte-of-word xs (4 * j) k bx small (omega arith) ∙ ap (λ (w : ℕ). bits w (8 * k) 8) (h j (omega arith)) ∙ sym (byte-of-word ys (4 * j) k by small (omega arith)))
 
 -- the words of a ledger of n records: those of the head, the types and the counters
-module _ (xs ys : List ℕ) (n : ℕ) (lx : length xs ≡ head + width * n) (ly : length ys ≡ head + width * n) (bx : Bytes xs) (by : Bytes ys)
-    (heads : (a : ℕ) → a + 4 ≤ head → word xs a ≡ word ys a)
-    (types : (b : ℕ) → b < n → recordWord xs typePlace b ≡ recordWord ys typePlace b)
-    (counters : (c : Counter) (b : ℕ) → b < n → recordWord xs (counterPlace c) b ≡ recordWord ys (counterPlace c) b) where
+module _ (xs ys : List ℕ) (n : ℕ) (lx : length xs ≡ ledgerHeadBytes + ledgerRecordBytes * n) (ly : length ys ≡ ledgerHeadBytes + ledgerRecordBytes * n) (bx : Bytes xs) (by : Bytes ys)
+    (heads : (a : ℕ) → a + 4 ≤ ledgerHeadBytes → word xs a ≡ word ys a)
+    (types : (b : ℕ) → b < n → recordWord xs typeWord b ≡ recordWord ys typeWord b)
+    (counters : (c : Counter) (b : ℕ) → b < n → recordWord xs (counterWord c) b ≡ recordWord ys (counterWord c) b) where
   in-record : (k b : ℕ) → k < 4 → b < n → recordWord xs k b ≡ recordWord ys k b
   in-record zero b h l = types b l
   in-record (suc zero) b h l = counters writable b l
@@ -48,8 +48,8 @@ module _ (xs ys : List ℕ) (n : ℕ) (lx : length xs ≡ head + width * n) (ly 
   ledger-ext = words-ext xs ys (lx ∙ sym ly) bx by at-word where
     at-word : (j : ℕ) → 4 * j < length xs → word xs (4 * j) ≡ word ys (4 * j)
     at-word j l =
-        ⊎-elim (λ (h : 4 * j < head). heads (4 * j) (omega arith))
-        (λ (h : head ≤ 4 * j).
-        let e : 4 * j ≡ head + width * ((4 * j - head) / width) + 4 * ((4 * j - head) % width / 4) = omega arith in
-        rw e (in-record ((4 * j - head) % width / 4) ((4 * j - head) / width) (omega arith) (omega arith)))
-        (below-or-above (4 * j) head)
+        ⊎-elim (λ (h : 4 * j < ledgerHeadBytes). heads (4 * j) (omega arith))
+        (λ (h : ledgerHeadBytes ≤ 4 * j).
+        let e : 4 * j ≡ ledgerHeadBytes + ledgerRecordBytes * ((4 * j - ledgerHeadBytes) / ledgerRecordBytes) + 4 * ((4 * j - ledgerHeadBytes) % ledgerRecordBytes / 4) = omega arith in
+        rw e (in-record ((4 * j - ledgerHeadBytes) % ledgerRecordBytes / 4) ((4 * j - ledgerHeadBytes) / ledgerRecordBytes) (omega arith) (omega arith)))
+        (below-or-above (4 * j) ledgerHeadBytes)

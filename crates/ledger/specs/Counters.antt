@@ -7,7 +7,7 @@ use Rattle.words.specs.Bounded.{any}
 use Rattle.words.specs.Words.{word}
 use Rattle.entries.specs.Entries.{Entry, first, size}
 use Rattle.rules.specs.Store as store
-use Rattle.rules.specs.Store.{basePlace, writable, executable, linked, counterPlace, recordWord, putRecordWord}
+use Rattle.rules.specs.Store.{basePlace, writable, executable, linked, counterWord, recordWord, putRecordWord}
 use Rattle.rules.specs.Tables.{grants}
 use Rattle.rules.specs.General as general
 use Rattle.rules.specs.General.{added, removed, endValue, overruns}
@@ -41,11 +41,11 @@ Placed ledger e = (c : store.Counter) → grants c e ≡ true → (word ledger b
 
 -- each counter c by which the entry counts can be changed
 abbrev pub Countable : general.Change → List ℕ → store.Counter → Entry → Type 0
-Countable d ledger c e = grants c e ≡ true → (i : ℕ) → i < size e → Changeable d (recordWord ledger (counterPlace c) (recordOf ledger e + i))
+Countable d ledger c e = grants c e ≡ true → (i : ℕ) → i < size e → Changeable d (recordWord ledger (counterWord c) (recordOf ledger e + i))
 
 -- a counter c by which the entry counts would overrun
 unfoldable pub counterOverruns : general.Change → List ℕ → store.Counter → Entry → Bool
-counterOverruns d ledger c e = grants c e && any (size e) (λ i. overruns d (recordWord ledger (counterPlace c) (recordOf ledger e + i)) 1)
+counterOverruns d ledger c e = grants c e && any (size e) (λ i. overruns d (recordWord ledger (counterWord c) (recordOf ledger e + i)) 1)
 
 -- word k of the m records from block b on, each changed by one
 unfoldable pub changed : general.Change → List ℕ → ℕ → ℕ → ℕ → List ℕ
@@ -54,4 +54,4 @@ changed d ledger k b (suc m) = putRecordWord (changed d ledger k b m) k (b + m) 
 
 -- the counters c by which the entry counts, each changed by one
 unfoldable pub changedCounter : general.Change → List ℕ → store.Counter → Entry → List ℕ
-changedCounter d ledger c e = cond (grants c e) (changed d ledger (counterPlace c) (recordOf ledger e) (size e)) ledger
+changedCounter d ledger c e = cond (grants c e) (changed d ledger (counterWord c) (recordOf ledger e) (size e)) ledger

@@ -15,7 +15,7 @@ ghost use Prim.Native.Nat.{ℕ, _+_, _<_};
 ghost use Rattle.words.specs.Bounded.{any};
 ghost use Rattle.entries.specs.Meaning.{meaning};
 ghost use Rattle.rules.specs.Store as store;
-ghost use Rattle.rules.specs.Store.{base as storedBase, blocks, counterPlace, lent, putRecordWord, recordWord};
+ghost use Rattle.rules.specs.Store.{base as storedBase, blocks, counterWord, lent, putRecordWord, recordWord};
 ghost use Rattle.rules.specs.Tables.{astray, grants};
 ghost use Rattle.rules.specs.General.{endValue, overruns, recounted, someOverrun};
 ghost use Rattle.ledger.specs.Records.{InLedger};
@@ -35,8 +35,8 @@ pub enum Counter {
 }
 
 // The counter's word in a record.
-pub fn place(counter: Counter) -> usize
-    ensures { λ r. ⌜ (r ≡ counterPlace (counterOf counter)) × (r < 4) ⌝ }
+pub fn counter_word(counter: Counter) -> usize
+    ensures { λ r. ⌜ (r ≡ counterWord (counterOf counter)) × (r < 4) ⌝ }
 {
     match counter {
         Counter::Writable => WRITABLE,
@@ -120,7 +120,7 @@ fn counter_overruns(change: Change, ledger: &[u8], counter: Counter, e: Entry) -
     some_overruns(
         change,
         ledger,
-        place(counter),
+        counter_word(counter),
         b as usize,
         entries::entry::size(e) as usize,
     )
@@ -136,7 +136,7 @@ fn change_counter(change: Change, ledger: &mut [u8], counter: Counter, e: Entry)
         change_words(
             change,
             ledger,
-            place(counter),
+            counter_word(counter),
             b as usize,
             entries::entry::size(e) as usize,
         );

@@ -1,10 +1,10 @@
 // Where the ledger keeps what, and the limits of a region: "Memory and ledger".
-use words::WORD_SIZE;
+use words::WORD_BYTES;
 ghost use mathlib.Core.Path.{_≡_};
 ghost use Prim.Native.Nat.{_+_, _*_, _≤_};
 ghost use lib.ListN.{length};
 ghost use Rattle.words.specs.Words.{word, putWord};
-ghost use Rattle.rules.specs.Store.{head, width, basePlace, activePlace, recordWord, putRecordWord};
+ghost use Rattle.rules.specs.Store.{ledgerHeadBytes, ledgerRecordBytes, basePlace, activePlace, recordWord, putRecordWord};
 
 pub const BLOCK_BYTES: usize = signature::golden::BLOCK_BYTES;
 
@@ -19,9 +19,9 @@ pub const BASE_ALIGNMENT: u32 = 256;
 pub const PHYSICAL_BLOCKS: usize = 0x10_0000;
 
 // Bytes before the records, and of a record.
-pub const HEAD: usize = 8;
+pub const LEDGER_HEAD_BYTES: usize = 8;
 
-pub const WIDTH: usize = 16;
+pub const LEDGER_RECORD_BYTES: usize = 16;
 
 const BASE_PLACE: usize = 0;
 
@@ -48,28 +48,28 @@ pub const NO_TABLE: u32 = 0xFFFF_FFFF;
 pub const COUNTER_LIMIT: u32 = 0x40_0000;
 
 pub fn base(ledger: &[u8]) -> u32
-    requires { ⌜ head ≤ length (now ledger) ⌝ }
+    requires { ⌜ ledgerHeadBytes ≤ length (now ledger) ⌝ }
     ensures { λ r. ⌜ r ≡ word (now (ledger .entry)) basePlace ⌝ }
 {
     words::word(ledger, BASE_PLACE)
 }
 
 pub fn active(ledger: &[u8]) -> u32
-    requires { ⌜ head ≤ length (now ledger) ⌝ }
+    requires { ⌜ ledgerHeadBytes ≤ length (now ledger) ⌝ }
     ensures { λ r. ⌜ r ≡ word (now (ledger .entry)) activePlace ⌝ }
 {
     words::word(ledger, ACTIVE_PLACE)
 }
 
 pub fn put_base(ledger: &mut [u8], first: u32)
-    requires { ⌜ head ≤ length (now ledger) ⌝ }
+    requires { ⌜ ledgerHeadBytes ≤ length (now ledger) ⌝ }
     ensures { λ r. ⌜ now (ledger .exit) ≡ putWord (now (ledger .entry)) basePlace first ⌝ }
 {
     words::put_word(ledger, BASE_PLACE, first);
 }
 
 pub fn put_active(ledger: &mut [u8], table: u32)
-    requires { ⌜ head ≤ length (now ledger) ⌝ }
+    requires { ⌜ ledgerHeadBytes ≤ length (now ledger) ⌝ }
     ensures { λ r. ⌜ now (ledger .exit) ≡ putWord (now (ledger .entry)) activePlace table ⌝ }
 {
     words::put_word(ledger, ACTIVE_PLACE, table);
@@ -77,15 +77,22 @@ pub fn put_active(ledger: &mut [u8], table: u32)
 
 // Word k of the record of block b, b counted from the region's first.
 pub fn record_word(ledger: &[u8], k: usize, b: usize) -> u32
-    requires { ⌜ head + width * b + 4 * k + 4 ≤ length (now ledger) ⌝ }
+    requires { ⌜ ledgerHeadBytes + ledgerRecordBytes * b + 4 * k + 4 ≤ length (now ledger) ⌝ }
     ensures { λ r. ⌜ r ≡ recordWord (now (ledger .entry)) k b ⌝ }
 {
-    words::word(ledger, HEAD + WIDTH * b + WORD_SIZE * k)
+    words::word(
+        ledger,
+        LEDGER_HEAD_BYTES + LEDGER_RECORD_BYTES * b + WORD_BYTES * k,
+    )
 }
 
 pub fn put_record_word(ledger: &mut [u8], k: usize, b: usize, v: u32)
-    requires { ⌜ head + width * b + 4 * k + 4 ≤ length (now ledger) ⌝ }
+    requires { ⌜ ledgerHeadBytes + ledgerRecordBytes * b + 4 * k + 4 ≤ length (now ledger) ⌝ }
     ensures { λ r. ⌜ now (ledger .exit) ≡ putRecordWord (now (ledger .entry)) k b v ⌝ }
 {
-    words::put_word(ledger, HEAD + WIDTH * b + WORD_SIZE * k, v);
+    words::put_word(
+        ledger,
+        LEDGER_HEAD_BYTES + LEDGER_RECORD_BYTES * b + WORD_BYTES * k,
+        v,
+    );
 }

@@ -1,11 +1,11 @@
 // Refusal 1, and places in the region.
 use crate::layout::BASE_ALIGNMENT;
 use crate::layout::BLOCK_BYTES;
-use crate::layout::HEAD;
 use crate::layout::LEAST_BLOCKS;
+use crate::layout::LEDGER_HEAD_BYTES;
+use crate::layout::LEDGER_RECORD_BYTES;
 use crate::layout::MOST_BLOCKS;
 use crate::layout::PHYSICAL_BLOCKS;
-use crate::layout::WIDTH;
 use crate::layout::base;
 use entries::entry;
 use entries::entry::Entry;
@@ -40,7 +40,7 @@ pub fn is_misfit(memory: &[u8], ledger: &[u8], first: u32) -> bool
     if MOST_BLOCKS < n {
         return true;
     }
-    if ledger.len() != HEAD + WIDTH * n {
+    if ledger.len() != LEDGER_HEAD_BYTES + LEDGER_RECORD_BYTES * n {
         return true;
     }
     if first % BASE_ALIGNMENT != 0 {
@@ -53,7 +53,7 @@ pub fn is_misfit(memory: &[u8], ledger: &[u8], first: u32) -> bool
 pub fn is_misfit_stored(memory: &[u8], ledger: &[u8]) -> bool
     ensures { λ r. ⌜ r ≡ misfit (lent (now (memory .entry)) (now (ledger .entry))) (storedBase (lent (now (memory .entry)) (now (ledger .entry)))) ⌝ }
 {
-    if ledger.len() < HEAD {
+    if ledger.len() < LEDGER_HEAD_BYTES {
         return true;
     }
     is_misfit(memory, ledger, base(ledger))

@@ -18,14 +18,14 @@ ghost use Rattle.entries.specs.Meaning.{levelOf};
 ghost use Rattle.rules.specs.General.{otherType};
 ghost use Rattle.rules.specs.Refusals.{answerOf};
 ghost use Rattle.rules.specs.Store.{lent};
-ghost use Rattle.rules.specs.Tables.{code, entries, tableBlocks};
+ghost use Rattle.rules.specs.Tables.{entries, tableBlocks, typeCode};
 ghost use Rattle.ledger.specs.Lent.{Fits, TableInside};
 ghost use Rattle.ledger.specs.Pieces.{placeRefusals, tableRefusals};
 
 // The blocks of a table of each level.
 pub const L1_BLOCKS: u32 = 4;
 
-pub const L2_BLOCKS: u32 = 1;
+const L2_BLOCKS: u32 = 1;
 
 pub fn table_blocks(level: Level) -> u32
     ensures { λ r. ⌜ (r ≡ tableBlocks (levelOf level)) × (0 < r) × (r ≤ 4) ⌝ }
@@ -43,7 +43,7 @@ pub fn table_entries(level: Level) -> u32
 }
 
 pub fn table_type(level: Level) -> u32
-    ensures { λ r. ⌜ r ≡ code (levelOf level) ⌝ }
+    ensures { λ r. ⌜ r ≡ typeCode (levelOf level) ⌝ }
 {
     match level {
         Level::L1 => TYPE_L1,

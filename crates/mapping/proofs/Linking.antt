@@ -8,11 +8,11 @@ use native.Mathlib.Omega.{arith}
 use borrow.Author.Tests.{leb-false}
 use lib.Dec.{leb}
 use Rattle.words.specs.Bounded.{any}
-use Rattle.entries.specs.Entries.{Entry, l1, l2, isFault, first, size}
-use Rattle.entries.specs.Written.{IsTablePlace}
+use Rattle.entries.specs.Entries.{Entry, l1, l2, isFault, first, size, blockTables}
+use Rattle.entries.specs.Needs.{IsTablePlace}
 use Rattle.rules.specs.Refusals.{Refusal, _if_, answerOf}
 use Rattle.rules.specs.Store.{Store, base, blocks, Counter, misfit, outside}
-use Rattle.rules.specs.Tables.{tableBlocks, blockTables, tableEntry, astray}
+use Rattle.rules.specs.Tables.{tableBlocks, tableEntry, astray}
 use Rattle.rules.specs.General.{tableOutside, misaligned, beyondTable, added}
 use Rattle.rules.specs.Link.{linkTo, linkRefusals}
 use Rattle.rules.proofs.Refusals.{Passed, passed, now, rest}
@@ -27,7 +27,7 @@ use Rattle.mapping.proofs.Slots.{slot}
 -- the place of a link is its target
 pub link-astray : (B n t j : ℕ) → j < blockTables → astray B n (linkTo t j) ≡ outside B n t 1
 unfolding astray first size
-link-astray B n t j h = let is : (blockTables * t + j) / 4 ≡ t = omega arith in rw is refl
+link-astray B n t j h = let is : (blockTables * t + j) / blockTables ≡ t = omega arith in rw is refl
 
 module _ (s : Store) (p i t j : ℕ) where
   -- the list by its pieces, for the entry that stands at the index

@@ -1,19 +1,18 @@
 -- Map takes one word, and its target is the place of the entry that it writes.
-use mathlib.Core.Bool.{Bool, true, false, not, _&&_, _||_, and-assoc}
+use mathlib.Core.Bool.{Bool, true, false, not, _&&_, _||_}
 use mathlib.Core.List.{List, [], _∷_, _++_}
 use mathlib.Core.Path.{_≡_, refl, sym, _∙_, ap}
-use Prim.Native.Nat.{ℕ, _+_, _%_, _^_, _<_}
+use Prim.Native.Nat.{ℕ, _%_, _^_, _<_}
 use native.Mathlib.Nat.{add-zero}
 use native.Mathlib.Omega.{arith}
-use lib.Dec.{leb, ltb}
-use Rattle.words.specs.Bounded.{any, neqb}
+use Rattle.words.specs.Bounded.{any, neqb, among}
 use Rattle.words.proofs.Bounded.{or-false-left}
 use Rattle.entries.specs.Entries.{Entry, Level, isFault, rights, first, size, covers}
 use Rattle.entries.specs.Written.{wordOf, cacheable}
 use Rattle.rules.specs.Refusals.{Refusal, _if_, answerOf}
 use Rattle.rules.specs.Store.{Store, base, blocks, typeOf, Counter, executable, fill, misfit, outside, someBlock}
 use Rattle.rules.specs.Signature.{misfitImage}
-use Rattle.rules.specs.Tables.{typeD, tableBlocks, Form, sections, pages, level, covered, alignment, words, mapping, wordIndex, tableEntry, write, execute, allows, grants, gives, astray}
+use Rattle.rules.specs.Tables.{typeD, tableBlocks, Form, sections, pages, level, covered, words, mapping, wordIndex, tableEntry, write, execute, allows, grants, gives, astray}
 use Rattle.rules.specs.General.{tableOutside, misaligned, beyondTable, holder, added, recounted}
 use Rattle.rules.specs.Map.{unlawfulRights, unfitTarget, mapRefusals}
 use Rattle.rules.proofs.Refusals.{Passed, passed, now, rest}
@@ -39,17 +38,17 @@ mapping-astray sections B n t r h = h
 mapping-astray pages B n t r h = h
 
 -- what the target's entry gives its holder
-pub gives-holder : (f : Form) (t r h : ℕ) → gives executable (mapping f t r) h ≡ (allows r execute && leb t h && ltb h (t + covered f))
+pub gives-holder : (f : Form) (t r h : ℕ) → gives executable (mapping f t r) h ≡ (allows r execute && among t (covered f) h)
 unfolding gives grants covers rights first size
-gives-holder sections t r h = sym (and-assoc (allows r execute) (leb t h) (ltb h (t + 256)))
-gives-holder pages t r h = sym (and-assoc (allows r execute) (leb t h) (ltb h (t + 1)))
+gives-holder sections t r h = refl
+gives-holder pages t r h = refl
 
 pub unfit-inside : (f : Form) (s : Store) (p i t r : ℕ) → unfitTarget f s p i t r ≡ false → outside (base s) (blocks s) t (covered f) ≡ false
 unfolding unfitTarget
 unfit-inside f s p i t r h =
     let out = outside (base s) (blocks s) t (covered f) in
     let written = allows r write && someBlock t (covered f) (λ b. neqb (typeOf s b) typeD) in
-    let own = allows r execute && leb t (holder p i) && ltb (holder p i) (t + covered f) in
+    let own = allows r execute && among t (covered f) (holder p i) in
     or-false-left out written (or-false-left (out || written) own h)
 
 -- The list
@@ -83,7 +82,7 @@ module _ (f : Form) (golden : List ℕ) (s : Store) (p i t r : ℕ) where
     all-passed : Passed (pieces f golden s p i t r (level f) (tableEntry (level f) s p i))
     all-passed = passed (pieces f golden s p i t r (level f) (tableEntry (level f) s p i)) (omega arith) (sym (ap answerOf (map-list f golden s p i t r)) ∙ accepted)
 
-    from3 : Passed (3 if misaligned t (alignment f) ∷ 4 if beyondTable (level f) i ∷ (holderRefusals (level f) s p i ++ (8 if not (isFault (tableEntry (level f) s p i)) ∷ 9 if unlawfulRights r ∷ mapTargetRefusals f golden s p i t r)))
+    from3 : Passed (3 if misaligned t (covered f) ∷ 4 if beyondTable (level f) i ∷ (holderRefusals (level f) s p i ++ (8 if not (isFault (tableEntry (level f) s p i)) ∷ 9 if unlawfulRights r ∷ mapTargetRefusals f golden s p i t r)))
     from3 = rest (rest (rest (rest all-passed)))
 
     from10 : Passed (mapTargetRefusals f golden s p i t r)
@@ -92,11 +91,11 @@ module _ (f : Form) (golden : List ℕ) (s : Store) (p i t r : ℕ) where
     inside : outside (base s) (blocks s) t (covered f) ≡ false
     inside = unfit-inside f s p i t r (now from10)
 
-    pub map-target : (t < 2 ^ 20) × (t % alignment f ≡ 0)
+    pub map-target : (t < 2 ^ 20) × (t % covered f ≡ 0)
     map-target =
         let fit = fits s (base s) (now all-passed) in
         let (lo, hi) = within (base s) (blocks s) t (covered f) inside in
-        (omega (arith, covered-above f), equal (t % alignment f) 0 (now from3))
+        (omega (arith, covered-above f), equal (t % covered f) 0 (now from3))
 
     pub map-ready : {e : Entry} → e ≡ mapping f t r → Slot s p i × ((astray (base s) (blocks s) e ≡ false) × ((c : Counter) → Countable added (s .ledger) c e))
     map-ready {e} is =

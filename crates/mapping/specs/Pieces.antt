@@ -6,14 +6,14 @@ use Rattle.entries.specs.Entries.{Entry, Level, l2, isUnaccepted}
 use Rattle.rules.specs.Refusals.{Refusal, _if_}
 use Rattle.rules.specs.Store.{Store, base, blocks, typeOf, misfit}
 use Rattle.rules.specs.Signature.{misfitImage}
-use Rattle.rules.specs.Tables.{code, tableBlocks, Form, level, alignment, mapping, astray}
+use Rattle.rules.specs.Tables.{typeCode, tableBlocks, Form, level, covered, mapping, astray}
 use Rattle.rules.specs.General.{otherType, executableHolder, tableOutside, misaligned, beyondTable, someOverrun, added, removed}
 use Rattle.rules.specs.Link.{linkTo}
 use Rattle.rules.specs.Map.{unfitTarget, clashingTarget, unsignedTarget}
 
 -- the block that holds an entry
 abbrev pub holderRefusals : Level → Store → ℕ → ℕ → List Refusal
-holderRefusals v s p i = 5 if otherType v s p (code v) ∷ 7 if executableHolder s p i ∷ []
+holderRefusals v s p i = 5 if otherType v s p (typeCode v) ∷ 7 if executableHolder s p i ∷ []
 
 -- the place of an entry
 abbrev pub slotRefusals : Level → Store → ℕ → ℕ → List Refusal
@@ -26,13 +26,13 @@ removalRefusals s e = 8 if isUnaccepted e ∷ 10 if astray (base s) (blocks s) e
 
 -- the table to which a link leads
 abbrev pub linkTargetRefusals : Store → ℕ → ℕ → List Refusal
-linkTargetRefusals s t j = 10 if tableOutside l2 s t ∷ 10 if neqb (typeOf s t) (code l2) ∷ 13 if someOverrun added s 1 (λ k. linkTo t j) ∷ []
+linkTargetRefusals s t j = 10 if tableOutside l2 s t ∷ 10 if neqb (typeOf s t) (typeCode l2) ∷ 13 if someOverrun added s 1 (λ k. linkTo t j) ∷ []
 
 -- what a mapping asks of the table and the index
 abbrev pub mapPlaceRefusals : Form → List ℕ → Store → ℕ → ℕ → ℕ → List Refusal
 mapPlaceRefusals f golden s p i t =
     1 if misfit s (base s) ∷ 1 if misfitImage golden ∷ 2 if tableOutside (level f) s p ∷ 3 if misaligned p (tableBlocks (level f))
-    ∷ 3 if misaligned t (alignment f) ∷ 4 if beyondTable (level f) i ∷ []
+    ∷ 3 if misaligned t (covered f) ∷ 4 if beyondTable (level f) i ∷ []
 
 -- and of its target
 abbrev pub mapTargetRefusals : Form → List ℕ → Store → ℕ → ℕ → ℕ → ℕ → List Refusal

@@ -2,7 +2,8 @@
 use mathlib.Core.Bool.{false}
 use mathlib.Core.Path.{_≡_}
 use Prim.Native.Nat.{ℕ, _≤_}
-use Rattle.entries.specs.Entries.{Level, HoldsWord}
+use Rattle.entries.specs.Entries.{Level}
+use Rattle.entries.specs.Needs.{HoldsWord}
 use Rattle.rules.specs.Store.{Store, base, blocks, misfit, outside}
 use Rattle.rules.specs.Tables.{wordIndex}
 use Rattle.rules.specs.General.{tableOutside, beyondTable}

@@ -2,10 +2,10 @@
 use entries::encode::CACHEABLE;
 use entries::encode::page_word;
 use entries::encode::section_word;
-use entries::entry::BLOCKS_OF_A_SECTION;
 use entries::entry::Entry;
 use entries::entry::Level;
 use entries::entry::Mapping;
+use entries::entry::SECTION_BLOCKS;
 ghost use mathlib.Core.Path.{_≡_};
 ghost use Prim.Native.Nat.{_%_, _^_, _<_, _≤_};
 ghost use Rattle.entries.specs.Meaning.{levelOf, meaning};
@@ -32,7 +32,7 @@ pub fn covered(form: Form) -> u32
     ensures { λ r. ⌜ (r ≡ tables.covered (formOf form)) × (0 < r) × (r ≤ 256) ⌝ }
 {
     match form {
-        Form::Sections => BLOCKS_OF_A_SECTION,
+        Form::Sections => SECTION_BLOCKS,
         Form::Pages => 1,
     }
 }
@@ -55,7 +55,7 @@ pub fn mapping(form: Form, target: u32, rights: u32) -> Entry
 
 // The word of that entry.
 pub fn mapping_word(form: Form, target: u32, rights: u32) -> u32
-    requires { ⌜ (target < 2 ^ 20) × (target % tables.alignment (formOf form) ≡ 0) ⌝ }
+    requires { ⌜ (target < 2 ^ 20) × (target % tables.covered (formOf form) ≡ 0) ⌝ }
     ensures { λ r. ⌜ r ≡ wordOf cacheable (tables.mapping (formOf form) target rights) ⌝ }
 {
     match form {

@@ -3,9 +3,9 @@ use crate::slot::entry_in;
 use crate::slot::holder_refusal;
 use crate::slot::write_entry;
 use entries::encode::link_word;
+use entries::entry::BLOCK_TABLES;
 use entries::entry::Entry;
 use entries::entry::Level;
-use entries::entry::TABLES_OF_A_BLOCK;
 use entries::entry::is_fault;
 use ledger::counters::Change;
 use ledger::counters::entry_overruns;
@@ -26,10 +26,10 @@ use ledger::table::place_refusal;
 use ledger::table::table_entries;
 ghost use mathlib.Core.Path.{_≡_};
 ghost use Prim.Native.Nat.{_<_};
+ghost use Rattle.entries.specs.Entries.{blockTables};
 ghost use Rattle.rules.specs.Refusals.{answerOf};
 ghost use Rattle.rules.specs.Store.{lent};
 ghost use Rattle.rules.specs.Link.{linkOutcome, linkRefusals};
-ghost use Rattle.rules.specs.Tables.{blockTables};
 ghost use Rattle.ledger.specs.Lent.{Fits};
 ghost use Rattle.mapping.specs.Pieces.{linkTargetRefusals};
 
@@ -46,7 +46,7 @@ fn link_target_refusal(memory: &[u8], ledger: &[u8], target: u32, table: u32) ->
     if record_word(ledger, TYPE, b as usize) != TYPE_L2 {
         return UNFIT_TARGET;
     }
-    let e = Entry::Link(TABLES_OF_A_BLOCK * target + table);
+    let e = Entry::Link(BLOCK_TABLES * target + table);
     if entry_overruns(Change::Added, memory, ledger, e) {
         return OVERRUN;
     }
@@ -73,7 +73,7 @@ fn link_refusal(
     if table_entries(Level::L1) <= index {
         return BEYOND_TABLE;
     }
-    if TABLES_OF_A_BLOCK <= table {
+    if BLOCK_TABLES <= table {
         return BEYOND_TABLE;
     }
     let holder = holder_refusal(Level::L1, memory, ledger, block, index);
@@ -102,7 +102,7 @@ pub fn link(
     if refusal != ACCEPTED {
         return refusal;
     }
-    let place = TABLES_OF_A_BLOCK * target + table;
+    let place = BLOCK_TABLES * target + table;
     let w = link_word(place);
     write_entry(
         Change::Added,

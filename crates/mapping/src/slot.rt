@@ -13,7 +13,7 @@ use ledger::refusals::EXECUTABLE_HOLDER;
 use ledger::refusals::WRONG_TYPE;
 use ledger::table::is_other_type;
 use ledger::table::table_type;
-use words::WORD_SIZE;
+use words::WORD_BYTES;
 use words::put_word;
 ghost use mathlib.Core.Bool.{false};
 ghost use mathlib.Core.Path.{_≡_};
@@ -23,7 +23,7 @@ ghost use Rattle.words.specs.Words.{word};
 ghost use Rattle.entries.specs.Meaning.{levelOf, meaning};
 ghost use Rattle.rules.specs.Refusals.{answerOf};
 ghost use Rattle.rules.specs.Store as store;
-ghost use Rattle.rules.specs.Store.{base as storedBase, basePlace, blockWords, blocks, fill, head, lent};
+ghost use Rattle.rules.specs.Store.{base as storedBase, basePlace, blockWords, blocks, fill, ledgerHeadBytes, lent};
 ghost use Rattle.rules.specs.Tables.{astray, tableEntry, wordIndex};
 ghost use Rattle.rules.specs.General.{recounted};
 ghost use Rattle.ledger.specs.Counters.{Countable, changeOf};
@@ -32,7 +32,7 @@ ghost use Rattle.mapping.specs.Slots.{InTable, Slot};
 
 // The place in the memory, in words, of an entry of the table at a block.
 fn word_index(ledger: &[u8], block: u32, index: u32) -> usize
-    requires { ⌜ (head ≤ length (now ledger)) × (word (now ledger) basePlace ≤ block) × (blockWords * (block - word (now ledger) basePlace) + index < 2 ^ 32) ⌝ }
+    requires { ⌜ (ledgerHeadBytes ≤ length (now ledger)) × (word (now ledger) basePlace ≤ block) × (blockWords * (block - word (now ledger) basePlace) + index < 2 ^ 32) ⌝ }
     ensures { λ r. ⌜ r ≡ blockWords * (block - word (now (ledger .entry)) basePlace) + index ⌝ }
 {
     (BLOCK_WORDS * (block - base(ledger)) + index) as usize
@@ -79,5 +79,5 @@ pub fn write_entry(
 {
     let j = word_index(ledger, block, index);
     change_entry(change, memory, ledger, e);
-    put_word(memory, WORD_SIZE * j, w);
+    put_word(memory, WORD_BYTES * j, w);
 }

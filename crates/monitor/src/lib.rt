@@ -61,7 +61,7 @@ pub extern "C" fn pagemon_free_l1(memory: &[u8], ledger: &mut [u8], block: u32) 
     tables::free::free(Level::L1, memory, ledger, block)
 }
 
-// Free L2: the table's blocks become data.
+// Free L2: the block becomes data.
 #[no_mangle]
 pub extern "C" fn pagemon_free_l2(memory: &[u8], ledger: &mut [u8], block: u32) -> u32
     ensures { λ r. ⌜ r ≡ freeOutcome l2 (lent (now (memory .entry)) (now (ledger .entry))) block .answer ⌝ }

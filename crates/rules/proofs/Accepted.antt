@@ -10,11 +10,12 @@ use native.Mathlib.Omega.{arith}
 use lib.ListN.{length}
 use borrow.Author.Tests.{leb-false}
 use Rattle.words.specs.Words.{bits, word}
-use Rattle.entries.specs.Entries.{Entry, link, section, page, Level, l1, l2, entryAt, isFault, isUnaccepted, rights, first, size}
-use Rattle.entries.specs.Written.{wordOf, cacheable, Encodable}
+use Rattle.entries.specs.Entries.{Entry, link, section, page, Level, l1, l2, entryAt, isFault, isUnaccepted, rights, first, size, blockTables}
+use Rattle.entries.specs.Written.{wordOf, cacheable}
+use Rattle.entries.proofs.RoundTrip.{Encodable}
 use Rattle.rules.specs.Refusals.{answerOf}
 use Rattle.rules.specs.Store.{blockBytes, blockWords, Store, blocks, base, outside}
-use Rattle.rules.specs.Tables.{tableBlocks, entries, Form, sections, pages, level, covered, words, mapping, wordIndex, astray, blockTables, l2Words}
+use Rattle.rules.specs.Tables.{tableBlocks, entries, Form, sections, pages, level, covered, words, mapping, wordIndex, astray, l2Words}
 use Rattle.rules.specs.General.{tableOutside, beyondTable, entered}
 use Rattle.rules.specs.Map.{mapRefusals, mapOutcome}
 use Rattle.rules.specs.Link.{linkTo, linkRefusals, linkOutcome}

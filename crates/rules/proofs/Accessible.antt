@@ -13,7 +13,7 @@ use Rattle.entries.specs.Entries.{Entry, Level, l1, l2, entryAt, rights}
 use Rattle.rules.specs.Refusals.{answerOf}
 use Rattle.rules.specs.Store.{blockBytes, blockWords, Store, blocks, base, Counter, writable, executable}
 use Rattle.rules.specs.Signature.{contents}
-use Rattle.rules.specs.Tables.{typeD, code, Right, write, execute, allows, grants}
+use Rattle.rules.specs.Tables.{typeD, typeCode, Right, write, execute, allows, grants}
 use Rattle.rules.specs.Guest.{byteIndex, Access, reads, fetches, writes, needed, activeWalk, guestRefusals, written, byteGiven, guestAfter, guestOutcome}
 use Rattle.rules.specs.Steps.{Told}
 use Rattle.rules.specs.Demand3.{counted}
@@ -30,7 +30,7 @@ record Counted (h : Told) (s : Store) (c : Counter) (p : ℕ) : Type 0 where
   inside : block < blocks s
   some-entry : 0 < counted h s c block
 
-not-data : (v : Level) → code v ≢ typeD
+not-data : (v : Level) → typeCode v ≢ typeD
 not-data l1 e = omega arith
 not-data l2 e = omega arith
 
@@ -127,7 +127,7 @@ module _ {h : Told} {s : Store} (r : Running h s) where
         mem : List ℕ
         mem = guestOutcome a s addr .after .memory
 
-        kept : (v : Level) (j : ℕ) → (j < blockWords * blocks s) × (h .types (base s + j / blockWords) ≡ code v) → entryAt v mem j ≡ entryAt v (s .memory) j
+        kept : (v : Level) (j : ℕ) → (j < blockWords * blocks s) × (h .types (base s + j / blockWords) ≡ typeCode v) → entryAt v mem j ≡ entryAt v (s .memory) j
         kept v j (inside, typed) =
             let b = j / blockWords in
             contents-entry v mem (s .memory) b j (guest-guarded r a addr b (omega arith) (λ z. not-data v (sym typed ∙ rw (r .told-base) at z))) refl

@@ -17,14 +17,14 @@ use Rattle.words.proofs.Lists.{length-tabulate}
 use Rattle.signature.specs.Sha256.{digestByte, hash, sha256}
 use Rattle.signature.specs.Signed.{digestBytes, agrees, listed, signed}
 use Rattle.entries.specs.Entries.{Entry, fault, Level, l1, l2, entryAt, l1Entry, l2Entry, isUnaccepted, isLink, rights, size}
-use Rattle.entries.specs.Written.{readWrite}
+use Rattle.entries.proofs.RoundTrip.{readWrite}
 use Rattle.rules.specs.Refusals.{answerOf}
 use Rattle.rules.specs.Store.{blockWords, Store, blocks, base, Counter, writable, executable, linked, counter, someCounter, someBlock, someRegionBlock}
 use Rattle.rules.specs.Signature.{misfitImage, contents, certified}
-use Rattle.rules.specs.Tables.{typeD, code, tableBlocks, entries, pages, typedEntry, tableEntry, allows, grants, gain, astray}
+use Rattle.rules.specs.Tables.{typeD, typeCode, tableBlocks, entries, pages, typedEntry, tableEntry, allows, grants, gain, astray}
 use Rattle.rules.specs.Begin.{beginRefusals, beginAfter, beginOutcome}
 use Rattle.rules.specs.Create.{someCount, misplaced, unfitLink, unfitWrite, clash, clashes, unsigned, createRefusals, createOutcome, createAfter}
-use Rattle.rules.specs.Steps.{Step, creates, maps, obey, run, Told, typed, told, heard, history}
+use Rattle.rules.specs.Steps.{Step, creates, maps, obey, run, Told, typed, afterAccepted, afterAnswer, history}
 use Rattle.rules.specs.Demand3.{storeAt, toldAt}
 use Rattle.rules.specs.Policies.{WritableByOneEntry, thereAndBack}
 use Rattle.rules.proofs.Refusals.{Passed, done, step, accepted}
@@ -35,7 +35,7 @@ use Rattle.rules.proofs.Passing.{settle-answer, Taken, taken, inside, n
 use Rattle.rules.proofs.InTurn.{Alone, map-goes, of-alone}
 use Rattle.rules.proofs.Policies.{policies}
 use Rattle.rules.proofs.Runs.{answers-append}
-use Rattle.rules.proofs.SmallStores.{memory, length-memory, first-entry, rest-entry, ledger, lent, fit}
+use Rattle.rules.proofs.SmallStores.{memory, length-memory, first-entry, rest-entry, ledger, smallStore, fit}
 
 -- every word is a fault, at either level
 abbrev pub Blank : List ℕ → Type 0
@@ -43,7 +43,7 @@ Blank memory = (v : Level) (j : ℕ) → entryAt v memory j ≡ fault
 
 blank-typed : (memory : List ℕ) → Blank memory → (t j : ℕ) → typedEntry t memory j ≡ fault
 unfolding typedEntry
-blank-typed memory blank t j = rw (blank l1 j, blank l2 j) (either (eqb t (code l1)) (eqb t (code l2))) where
+blank-typed memory blank t j = rw (blank l1 j, blank l2 j) (either (eqb t (typeCode l1)) (eqb t (typeCode l2))) where
   either : (a b : Bool) → cond a fault (cond b fault fault) ≡ fault
   either true b = refl
   either false true = refl
@@ -108,16 +108,16 @@ pub page-signed : certified golden 0 (memory 0) 5 ≡ true
 unfolding certified
 page-signed = signed-by-own-digest (contents (memory 0) 5)
 
-pub begins-zeros : beginOutcome (lent 0 ledger) 0 .answer ≡ 0
+pub begins-zeros : beginOutcome (smallStore 0 ledger) 0 .answer ≡ 0
 unfolding beginOutcome
 begins-zeros = settle-answer _ _ _ _ ∙ accepted (step (fit 0 ledger refl) done)
 
 abbrev pub started : Store
-started = beginOutcome (lent 0 ledger) 0 .after
+started = beginOutcome (smallStore 0 ledger) 0 .after
 
 started-memory : started .memory ≡ memory 0
 unfolding beginOutcome
-started-memory = ap (λ (x : Store). x .memory) (settle-accepted (lent 0 ledger) (beginAfter (lent 0 ledger) 0) (answerOf (beginRefusals (lent 0 ledger) 0)) 0 begins-zeros .1)
+started-memory = ap (λ (x : Store). x .memory) (settle-accepted (smallStore 0 ledger) (beginAfter (smallStore 0 ledger) 0) (answerOf (beginRefusals (smallStore 0 ledger) 0)) 0 begins-zeros .1)
 
 zeros-blank : Blank (memory 0)
 unfolding l1Entry l2Entry
@@ -137,7 +137,7 @@ pub record Zeros (types : ℕ → ℕ) (s : Store) : Type 0 where
   pub zeros : s .memory ≡ memory 0
 
 pub zeros-started : Zeros (λ b. typeD) started
-zeros-started = record { runs = begin-accepted (lent 0 ledger) 0 golden begins-zeros; zeros = started-memory }
+zeros-started = record { runs = begin-accepted (smallStore 0 ledger) 0 golden begins-zeros; zeros = started-memory }
 
 module _ {types : ℕ → ℕ} {s : Store} (z : Zeros types s) where
   pub blank : Blank (s .memory)
@@ -150,8 +150,8 @@ module _ {types : ℕ → ℕ} {s : Store} (z : Zeros types s) where
   uncounted c b l = blank-uncounted (z .runs) blank c b (rw eight l)
 
   pub create-zeros : (v : Level) (p : ℕ) → p + tableBlocks v ≤ 8 → p % tableBlocks v ≡ 0 → ((k : ℕ) → k < tableBlocks v → types (p + k) ≡ typeD)
-      → (obey golden s (creates v p) .answer ≡ 0) × Zeros (typed types p (tableBlocks v) (code v)) (obey golden s (creates v p) .after)
-  unfolding told
+      → (obey golden s (creates v p) .answer ≡ 0) × Zeros (typed types p (tableBlocks v) (typeCode v)) (obey golden s (creates v p) .after)
+  unfolding afterAccepted
   create-zeros v p high aligned free =
       let based = z .runs .told-base in
       let c = create-taken (z .runs) blank v p lawful (omega arith) (omega (arith, eight)) aligned free in
@@ -164,7 +164,7 @@ abbrev pub tableAndPage : List Step
 tableAndPage = creates l2 0 ∷ maps pages 0 0 5 3 ∷ []
 
 abbrev withL2 : ℕ → ℕ
-withL2 = typed (λ b. typeD) 0 (tableBlocks l2) (code l2)
+withL2 = typed (λ b. typeD) 0 (tableBlocks l2) (typeCode l2)
 
 tabled-alone : {s : Store} → Zeros withL2 s → Alone 0 (toldOf withL2 none) s 0 0 5 fault
 unfolding typed num
@@ -193,11 +193,11 @@ two-steps =
 
 -- after two steps there is what `Policies.in-turn` asks for
 pub writable-reached : WritableByOneEntry (toldAt golden 0 started tableAndPage 2) (storeAt golden started tableAndPage 2) 0 0 5
-unfolding history heard told
+unfolding history afterAnswer afterAccepted
 writable-reached = let (answers-are, one-entry) = two-steps in rw answers-are one-entry
 
 -- and six steps in a row are accepted
 pub six-accepted : run golden started (tableAndPage ++ thereAndBack 0 0 5) .answers ≡ (0 ∷ 0 ∷ 0 ∷ 0 ∷ 0 ∷ 0 ∷ [])
 six-accepted =
-    let back = policies golden (lent 0 ledger) 0 begins-zeros tableAndPage .in-turn lawful 0 0 5 2 writable-reached in
+    let back = policies golden (smallStore 0 ledger) 0 begins-zeros tableAndPage .in-turn lawful 0 0 5 2 writable-reached in
     answers-append golden started tableAndPage (thereAndBack 0 0 5) ∙ rw (two-steps .0, back) refl

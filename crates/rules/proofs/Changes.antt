@@ -12,7 +12,7 @@ use Rattle.entries.specs.Entries.{Entry}
 use borrow.Author.Tests.{ltb-false}
 use Rattle.words.specs.Bounded.{above}
 use Rattle.words.specs.Words.{word}
-use Rattle.rules.specs.Store.{blockWords, head, width, Store, blocks, base, active, recordWord, typePlace, Counter, writable, executable, linked, counterPlace, someCounter, counter, someBlock}
+use Rattle.rules.specs.Store.{blockWords, ledgerHeadBytes, ledgerRecordBytes, Store, blocks, base, active, recordWord, typeWord, Counter, writable, executable, linked, counterWord, someCounter, counter, someBlock}
 use Rattle.rules.specs.Tables.{gain}
 use Rattle.rules.specs.General.{Change, added, removed, endValue, overruns, someOverrun, recounted}
 use Rattle.rules.specs.Create.{clashes}
@@ -40,7 +40,7 @@ pub record Leaves (d : Change) (m : ℕ) (e : ℕ → Entry) (s after : Store) (
   pub ledger-length : length (after .ledger) ≡ length (s .ledger)
   pub base-is : base after ≡ base s
   pub active-is : active after ≡ activeWord (h .table)
-  pub types-are : (b : ℕ) → b < blocks s → recordWord (after .ledger) typePlace b ≡ typeAt (base s) h b
+  pub types-are : (b : ℕ) → b < blocks s → recordWord (after .ledger) typeWord b ≡ typeAt (base s) h b
   pub counters-are : (c : Counter) (b : ℕ) → b < blocks s → end d s m e c b < 2 ^ 32 → recorded after c b ≡ end d s m e c b
   pub root : (p : ℕ) → h .table ≡ some p → Root (base s) (blocks s) (h .types) p
 
@@ -120,12 +120,12 @@ module _ (d : Change) (s : Store) (m : ℕ) (e : ℕ → Entry) where
   pub length-recounted : length (recounted d s m e) ≡ length (s .ledger)
   length-recounted = length-recount (s .ledger) (blocks s) _
 
-  pub head-recounted : (a : ℕ) → a + 4 ≤ head → word (recounted d s m e) a ≡ word (s .ledger) a
+  pub head-recounted : (a : ℕ) → a + 4 ≤ ledgerHeadBytes → word (recounted d s m e) a ≡ word (s .ledger) a
   head-recounted = head-recount (s .ledger) (blocks s) _
 
-  pub type-recounted : (b : ℕ) → recordWord (recounted d s m e) typePlace b ≡ recordWord (s .ledger) typePlace b
+  pub type-recounted : (b : ℕ) → recordWord (recounted d s m e) typeWord b ≡ recordWord (s .ledger) typeWord b
   type-recounted = type-recount (s .ledger) (blocks s) _
 
-  pub counter-recounted : length (s .ledger) ≡ head + width * blocks s → (c : Counter) (b : ℕ) → b < blocks s → end d s m e c b < 2 ^ 32
-      → recordWord (recounted d s m e) (counterPlace c) b ≡ end d s m e c b
+  pub counter-recounted : length (s .ledger) ≡ ledgerHeadBytes + ledgerRecordBytes * blocks s → (c : Counter) (b : ℕ) → b < blocks s → end d s m e c b < 2 ^ 32
+      → recordWord (recounted d s m e) (counterWord c) b ≡ end d s m e c b
   counter-recounted f c b l small = counter-recount (s .ledger) (blocks s) (blocks s) (end d s m e) f (omega arith) c b l small

@@ -9,8 +9,8 @@ use native.Mathlib.Omega.{arith}
 use borrow.Author.Tests.{lt-ltb, le-ltb, ltb-true, ltb-false}
 use Rattle.words.proofs.Bounded.{false-unless, below-or-above, window-or-outside, or-false-left, or-false-right}
 use Rattle.entries.specs.Entries.{Entry, fault, l2, isUnaccepted, size}
-use Rattle.rules.specs.Store.{blockWords, most, limit, Counter, writable, executable, linked}
-use Rattle.rules.specs.Tables.{typeD, code, gives, gain, astray}
+use Rattle.rules.specs.Store.{blockWords, mostBlocks, counterLimit, Counter, writable, executable, linked}
+use Rattle.rules.specs.Tables.{typeD, typeCode, gives, gain, astray}
 use Rattle.rules.specs.General.{Change, added, removed, endValue, endsBelow, overruns}
 use Rattle.rules.specs.Create.{clash}
 use Rattle.rules.proofs.Gains.{gives-fault, gain-most, gain-hit, gain-none, gain-same, gain-part, gain-window}
@@ -19,7 +19,7 @@ use Rattle.rules.proofs.Gains.{gives-fault, gain-most, gain-hit, gain-n
 abbrev pub Suits : Counter → ℕ → Type 0
 Suits writable t = t ≡ typeD
 Suits executable t = Unit {0}
-Suits linked t = t ≡ code l2
+Suits linked t = t ≡ typeCode l2
 
 -- an entry that may stand in a table of the region of n blocks from B on, whose types are K
 pub record Sound (B n : ℕ) (K : ℕ → ℕ) (e : Entry) : Type 0 where
@@ -39,7 +39,7 @@ unfolding isUnaccepted astray size
 sound-fault B n K = record { accepted = refl; inside = refl; suits = λ c b l g. let z : false ≡ true = sym (gives-fault c (B + b)) ∙ g in absurd (false≢true z) }
 
 -- the numeric link: the words of the largest region are not more than the counters' limit
-pub words-limit : (n : ℕ) → n ≤ most → blockWords * n ≤ limit
+pub words-limit : (n : ℕ) → n ≤ mostBlocks → blockWords * n ≤ counterLimit
 words-limit n h = omega arith
 
 module _ {B n : ℕ} {K : ℕ → ℕ} {E : ℕ → Entry} {S : ℕ → Bool} {counts : Counter → ℕ → ℕ} (now : Consistent B n K E S counts) where
@@ -47,7 +47,7 @@ module _ {B n : ℕ} {K : ℕ → ℕ} {E : ℕ → Entry} {S : ℕ → Bool} {c
   pub counted : (c : Counter) (b j : ℕ) → b < n → j < blockWords * n → gives c (E j) (B + b) ≡ true → 0 < counts c b
   counted c b j l h g = rw (now .counts-are c b l) (gain-hit (blockWords * n) E c (B + b) j h g)
 
-  pub counts-limit : n ≤ most → (c : Counter) (b : ℕ) → b < n → counts c b ≤ limit
+  pub counts-limit : n ≤ mostBlocks → (c : Counter) (b : ℕ) → b < n → counts c b ≤ counterLimit
   counts-limit h c b l = rw (now .counts-are c b l) (omega (arith, gain-most (blockWords * n) E c (B + b), words-limit n h))
 
   -- what is the same for every word, every block that can be executed and every counter changes nothing
@@ -111,14 +111,14 @@ module _ {B n : ℕ} {K : ℕ → ℕ} {E : ℕ → Entry} {S : ℕ → Bool} {c
       omega (arith, balance c b l, now .counts-are c b l)
 
   -- 13 does not arise
-  pub no-overrun : n ≤ most → (c : Counter) (b : ℕ) → b < n → overruns d (counts c b) (gain m e c (B + b)) ≡ false
+  pub no-overrun : n ≤ mostBlocks → (c : Counter) (b : ℕ) → b < n → overruns d (counts c b) (gain m e c (B + b)) ≡ false
   unfolding overruns endsBelow
-  no-overrun h c b l = rw (below d (no-more c b l), le-ltb limit (counts-after c b) upper) (and-false (above (gain m e c (B + b)) 0)) where
+  no-overrun h c b l = rw (below d (no-more c b l), le-ltb counterLimit (counts-after c b) upper) (and-false (above (gain m e c (B + b)) 0)) where
     below : (d : Change) → gain m (windowBefore d e) c (B + b) ≤ counts c b → endsBelow d (counts c b) (gain m e c (B + b)) ≡ false
     below added g = refl
     below removed g = false-unless (endsBelow removed (counts c b) (gain m e c (B + b))) (λ t. omega (arith, ltb-true))
 
-    upper : counts-after c b ≤ limit
+    upper : counts-after c b ≤ counterLimit
     upper = rw (counts-are-after c b l) (omega (arith, gain-most (blockWords * n) E′ c (B + b), words-limit n h))
 
   -- tables and counters agree afterwards, given that what was counted still suits the types and the new entries are sound

@@ -4,16 +4,15 @@ use mathlib.Core.Bool.{Bool, true, false, _&&_, _||_, false≢true}
 use mathlib.Core.Path.{_≡_, refl, sym, _∙_}
 use Prim.Native.Nat.{ℕ, _+_, _-_, _<_, _≤_}
 use native.Mathlib.Omega.{arith}
-use borrow.Author.Tests.{lt-ltb, le-leb, not-false}
-use lib.Dec.{leb, ltb}
-use Rattle.words.specs.Bounded.{above, neqb, any}
-use Rattle.words.proofs.Bounded.{any-none, or-false-left, or-false-right, and-false-right}
+use borrow.Author.Tests.{lt-ltb, not-false}
+use Rattle.words.specs.Bounded.{above, neqb, any, among}
+use Rattle.words.proofs.Bounded.{any-none, or-false-left, or-false-right, and-false-right, among-in}
 use Rattle.entries.specs.Entries.{Entry, Level, l2, isUnaccepted, isLink, first, size}
 use Rattle.rules.specs.Store.{Store, blocks, base, Counter, writable, executable, linked, someCounter, typeOf, counter, someBlock, someRegionBlock}
-use Rattle.rules.specs.Tables.{typeD, code, tableBlocks, entries, tableEntry, grants, gives, gain, astray}
+use Rattle.rules.specs.Tables.{typeD, typeCode, tableBlocks, entries, tableEntry, grants, gives, gain, astray}
 use Rattle.rules.specs.General.{added, someOverrun, tableOutside, otherType}
 use Rattle.rules.specs.Create.{someCount, unfitLink, unfitWrite, misplaced, clashes, unsigned, createRefusals, createAfter, createOutcome}
-use Rattle.rules.specs.Steps.{creates, Told, told, typed}
+use Rattle.rules.specs.Steps.{creates, Told, afterAccepted, typed}
 use Rattle.rules.proofs.Refusals.{Passed, front, now, rest}
 use Rattle.rules.proofs.Gains.{gives-within}
 use Rattle.rules.proofs.Consistent.{Suits, Sound}
@@ -45,10 +44,10 @@ creatable v golden s p t1 =
 -- what 10 asks of an entry
 module _ (v : Level) (s : Store) (p : ℕ) (x : Entry) where
   abbrev notL2 : ℕ → Bool
-  notL2 b = neqb (typeOf s b) (code l2)
+  notL2 b = neqb (typeOf s b) (typeCode l2)
 
   abbrev own : ℕ → Bool
-  own b = leb p b && ltb b (p + tableBlocks v)
+  own b = among p (tableBlocks v) b
 
   abbrev notFree : ℕ → Bool
   notFree b = neqb (typeOf s b) typeD || own b
@@ -97,14 +96,14 @@ module _ (v : Level) (p : ℕ) {h : Told} {s : Store} (r : Running h s) (can : C
       let t = no-block-at (first x) (size x) (notFree v s p x) (placed .write-free grant) q lo hi in
       let is = sym (type-told r q (omega arith) (omega arith)) ∙ equal (typeOf s q) typeD (or-false-left (neqb (typeOf s q) typeD) (own v s p x q) t) in
       stays added v p r low high writable b is
-      (λ from to. let o : own v s p x q ≡ true = rw (le-leb p q from, lt-ltb q (p + tableBlocks v) to) refl in
+      (λ from to. let o : own v s p x q ≡ true = among-in p (tableBlocks v) q from to in
       absurd (false≢true (sym (or-false-right (neqb (typeOf s q) typeD) (own v s p x q) t) ∙ o)))
   new-suits x placed executable b l g = tt
   new-suits x placed linked b l g =
       let q = base s + b in
       let (grant, lo, hi) = gives-within linked x q g in
       let t = no-block-at (first x) (size x) (notL2 v s p x) (placed .link-L2 grant) q lo hi in
-      let is = sym (type-told r q (omega arith) (omega arith)) ∙ equal (typeOf s q) (code l2) t in
+      let is = sym (type-told r q (omega arith) (omega arith)) ∙ equal (typeOf s q) (typeCode l2) t in
       stays added v p r low high linked b is
       (λ from to. let i : p + (q - p) ≡ q = omega arith in let z : ⊥ = omega (arith, is, rw i at (was (q - p) (omega arith))) in absurd z)
 
@@ -132,7 +131,7 @@ module _ (v : Level) (p : ℕ) {h : Told} {s : Store} (r : Running h s) (can : C
             (rw (lt-ltb 0 (gain (entries v) e executable (base s + b)) g) at (no-block (base s) (blocks s) (unsigned (h .golden) s (entries v) e) (can .signs) b l))
 
 pub create-next : (v : Level) (p : ℕ) {h : Told} {s : Store} → Running h s → Next h (creates v p) (createOutcome v (h .golden) s p)
-unfolding createOutcome told
+unfolding createOutcome afterAccepted
 create-next v p {h} {s} r =
     next-13 (creates v p) (createAfter v s p) (createRefusals v (h .golden) s p) r (omega arith) (omega arith) (omega arith)
     (λ tests. created v p r (creatable v (h .golden) s p tests))

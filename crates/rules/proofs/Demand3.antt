@@ -7,7 +7,7 @@ use lib.ListN.{length, take, getElem?}
 use lib.Seq.{take-length}
 use Rattle.rules.specs.Store.{Store}
 use Rattle.rules.specs.Guest.{fetches}
-use Rattle.rules.specs.Steps.{Step, begins, creates, frees, maps, links, unmaps, switches, accesses, obey, run, Told, begun, told, heard, history}
+use Rattle.rules.specs.Steps.{Step, begins, creates, frees, maps, links, unmaps, switches, accesses, obey, run, Told, begun, afterAccepted, afterAnswer, history}
 use Rattle.rules.specs.Demand3.{Safe, Demand3, Demand3-holds}
 use Rattle.rules.proofs.State.{Running, safe, Next}
 use Rattle.rules.proofs.Starting.{begin-accepted, begin-next, switch-next}
@@ -31,23 +31,23 @@ step-next r (switches p) = switch-next r p
 step-next r (accesses a addr) = guest-next r a addr
 
 -- no step changes the golden image
-heard-golden : (k : ℕ) (h : Told) (step : Step) → heard k h step .golden ≡ h .golden
-unfolding heard told
-heard-golden zero h (begins B) = refl
-heard-golden zero h (creates v p) = refl
-heard-golden zero h (frees v p) = refl
-heard-golden zero h (maps f p i t q) = refl
-heard-golden zero h (links p i t j) = refl
-heard-golden zero h (unmaps f p i) = refl
-heard-golden zero h (switches p) = refl
-heard-golden zero h (accesses a addr) = refl
-heard-golden (suc k) h step = refl
+afterAnswer-golden : (k : ℕ) (h : Told) (step : Step) → afterAnswer k h step .golden ≡ h .golden
+unfolding afterAnswer afterAccepted
+afterAnswer-golden zero h (begins B) = refl
+afterAnswer-golden zero h (creates v p) = refl
+afterAnswer-golden zero h (frees v p) = refl
+afterAnswer-golden zero h (maps f p i t q) = refl
+afterAnswer-golden zero h (links p i t j) = refl
+afterAnswer-golden zero h (unmaps f p i) = refl
+afterAnswer-golden zero h (switches p) = refl
+afterAnswer-golden zero h (accesses a addr) = refl
+afterAnswer-golden (suc k) h step = refl
 
 pub history-golden : (h : Told) (steps : List Step) (answers : List ℕ) → history h steps answers .golden ≡ h .golden
 unfolding history
 history-golden h [] answers = refl
 history-golden h (step ∷ steps) [] = refl
-history-golden h (step ∷ steps) (k ∷ answers) = history-golden (heard k h step) steps answers ∙ heard-golden k h step
+history-golden h (step ∷ steps) (k ∷ answers) = history-golden (afterAnswer k h step) steps answers ∙ afterAnswer-golden k h step
 
 module _ (golden : List ℕ) where
   -- a step of a list that is lent this golden image
@@ -60,7 +60,7 @@ module _ (golden : List ℕ) where
   unfolding run history
   reached q r steps zero = r
   reached q r [] (suc i) = r
-  reached {h} {s} q r (step ∷ steps) (suc i) = reached (heard-golden (obey golden s step .answer) h step ∙ q) (next-at q r step .runs) steps i
+  reached {h} {s} q r (step ∷ steps) (suc i) = reached (afterAnswer-golden (obey golden s step .answer) h step ∙ q) (next-at q r step .runs) steps i
 
   -- a step of a list: the state in which it is taken, and what it does
   pub record Moment (h : Told) (s : Store) (steps : List Step) (i : ℕ) (step : Step) : Type 0 where
@@ -92,7 +92,7 @@ module _ (golden : List ℕ) where
         byte-is = rw same refl;
       }
   moment {h} {s} q r (first ∷ steps) (suc i) step e =
-      let m = moment (heard-golden (obey golden s first .answer) h first ∙ q) (next-at q r first .runs) steps i step e in
+      let m = moment (afterAnswer-golden (obey golden s first .answer) h first ∙ q) (next-at q r first .runs) steps i step e in
       record {
         told = m .told;
         store = m .store;
@@ -137,7 +137,7 @@ module _ (golden : List ℕ) where
 
 -- every list that starts from what an accepted begin leaves
 pub demand3 : Demand3-holds
-demand3 golden lent B accepted steps = demanded golden (begin-accepted lent B golden accepted) steps
+demand3 golden start B accepted steps = demanded golden (begin-accepted start B golden accepted) steps
 
 -- so it holds of the very store that a list reaches, with all its answers
 pub at-the-end : {golden : List ℕ} {B : ℕ} {s : Store} {steps : List Step} → Demand3 golden B s steps

@@ -8,14 +8,14 @@ use lib.ListN.{length}
 use Rattle.words.proofs.Bounded.{same}
 use Rattle.entries.specs.Entries.{l1, l2}
 use Rattle.rules.specs.Refusals.{answerOf}
-use Rattle.rules.specs.Store.{blockBytes, least, most, head, width, baseAlignment, physicalBlocks, Store, blocks, outside, misfit, settle}
+use Rattle.rules.specs.Store.{blockBytes, leastBlocks, mostBlocks, ledgerHeadBytes, ledgerRecordBytes, baseAlignment, physicalBlocks, Store, blocks, outside, misfit, settle}
 use Rattle.rules.specs.Begin.{beginOutcome}
 use Rattle.rules.specs.General.{beyondTable}
 
 -- a memory of n blocks with its ledger, at a B that fits
 pub record Sized (n B : ℕ) (s : Store) : Type 0 where
   pub memory : length (s .memory) ≡ blockBytes * n
-  pub ledger : length (s .ledger) ≡ head + width * n
+  pub ledger : length (s .ledger) ≡ ledgerHeadBytes + ledgerRecordBytes * n
   pub aligned : B % baseAlignment ≡ 0
   pub low : B + n ≤ physicalBlocks
 
@@ -28,20 +28,20 @@ module _ {n B : ℕ} {s : Store} (sized : Sized n B s) where
 
   few : n ≤ 7 → beginOutcome s B .answer ≡ 1
   unfolding beginOutcome misfit settle answerOf
-  few h = rw (same _ _ whole, lt-ltb (blocks s) least (omega (arith, count))) refl
+  few h = rw (same _ _ whole, lt-ltb (blocks s) leastBlocks (omega (arith, count))) refl
 
   many : 4097 ≤ n → beginOutcome s B .answer ≡ 1
   unfolding beginOutcome misfit settle answerOf
-  many h = rw (same _ _ whole, le-ltb (blocks s) least (omega (arith, count)), lt-ltb most (blocks s) (omega (arith, count))) refl
+  many h = rw (same _ _ whole, le-ltb (blocks s) leastBlocks (omega (arith, count)), lt-ltb mostBlocks (blocks s) (omega (arith, count))) refl
 
   between : 8 ≤ n → n ≤ 4096 → beginOutcome s B .answer ≡ 0
   unfolding beginOutcome misfit settle answerOf
   between h k =
-      let l : length (s .ledger) ≡ head + width * blocks s = (let e = sized .ledger in let c = count in omega arith) in
+      let l : length (s .ledger) ≡ ledgerHeadBytes + ledgerRecordBytes * blocks s = (let e = sized .ledger in let c = count in omega arith) in
       rw (
         same _ _ whole,
-        le-ltb (blocks s) least (omega (arith, count)),
-        le-ltb most (blocks s) (omega (arith, count)),
+        le-ltb (blocks s) leastBlocks (omega (arith, count)),
+        le-ltb mostBlocks (blocks s) (omega (arith, count)),
         same _ _ l,
         same _ _ (sized .aligned),
         le-ltb physicalBlocks (B + blocks s) (let b = sized .low in omega (arith, count)),

@@ -10,9 +10,10 @@ use borrow.Author.Tests.{ltb-false, leb-false, not-false}
 use Rattle.words.specs.Bounded.{above}
 use Rattle.words.proofs.Bounded.{any-none}
 use Rattle.entries.specs.Entries.{Entry, fault, Level, entryAt, isFault}
-use Rattle.entries.specs.Written.{wordOf, cacheable, Encodable}
+use Rattle.entries.specs.Written.{wordOf, cacheable}
+use Rattle.entries.proofs.RoundTrip.{Encodable}
 use Rattle.rules.specs.Store.{blockWords, Store, blocks, base, Counter, writable, executable, counter, fill}
-use Rattle.rules.specs.Tables.{code, tableBlocks, entries, Form, sections, pages, words, wordIndex, tableEntry, grants, gives, gain}
+use Rattle.rules.specs.Tables.{typeCode, tableBlocks, entries, Form, sections, pages, words, wordIndex, tableEntry, grants, gives, gain}
 use Rattle.rules.specs.General.{occupied, entered, tableOutside, beyondTable, otherType, holder, executableHolder, Change, added, endValue, someOverrun, recounted}
 use Rattle.rules.specs.Create.{clash, clashes}
 use Rattle.rules.specs.Steps.{Told}
@@ -27,14 +28,14 @@ use Rattle.rules.proofs.Changes.{Changes, counter-at, end, Leaves, adds
 pub record Slot (h : Told) (s : Store) (v : Level) (p i m : ℕ) : Type 0 where
   pub low : base s ≤ p
   pub high : p + tableBlocks v ≤ base s + blocks s
-  pub typed : (k : ℕ) → k < tableBlocks v → h .types (p + k) ≡ code v
+  pub typed : (k : ℕ) → k < tableBlocks v → h .types (p + k) ≡ typeCode v
   pub in-table : i + m ≤ entries v
   pub in-holder : i + m ≤ blockWords * (i / blockWords + 1)
   pub unexecuted : recorded s executable (holder p i - base s) ≡ 0
 
 module _ {h : Told} {s : Store} (r : Running h s) (v : Level) (p i m : ℕ) where
   -- the word of an entry is one word
-  pub slot : m ≡ 1 → tableOutside v s p ≡ false → beyondTable v i ≡ false → otherType v s p (code v) ≡ false → executableHolder s p i ≡ false → Slot h s v p i m
+  pub slot : m ≡ 1 → tableOutside v s p ≡ false → beyondTable v i ≡ false → otherType v s p (typeCode v) ≡ false → executableHolder s p i ≡ false → Slot h s v p i m
   slot one t2 t4 t5 t7 =
       let (low, high) = within (base s) (blocks s) p (tableBlocks v) t2 in
       let i-small = leb-false (entries v) i t4 in
@@ -42,7 +43,7 @@ module _ {h : Told} {s : Store} (r : Running h s) (v : Level) (p i m : ℕ) wher
       record {
         low = low;
         high = high;
-        typed = types-told r v p (code v) t2 t5;
+        typed = types-told r v p (typeCode v) t2 t5;
         in-table = omega arith;
         in-holder = omega arith;
         unexecuted = omega arith;

@@ -11,15 +11,16 @@ use borrow.Author.Tests.{le-ltb}
 use Rattle.words.specs.Bounded.{num}
 use Rattle.words.proofs.Bounded.{any-avoids, same}
 use Rattle.entries.specs.Entries.{Entry, fault, page, l1, l2, entryAt, isFault, rights}
-use Rattle.entries.specs.Written.{wordOf, cacheable, readExecute}
+use Rattle.entries.specs.Written.{wordOf, cacheable}
 use Rattle.entries.proofs.Decoding.{entryAt-cong}
+use Rattle.entries.proofs.RoundTrip.{readExecute}
 use Rattle.rules.specs.Store.{Store, blocks, base, Counter, writable, executable, counter, typeOf, fill}
-use Rattle.rules.specs.Tables.{typeD, code, tableBlocks, pages, wordIndex, tableEntry, gives, grants, allows}
+use Rattle.rules.specs.Tables.{typeD, typeCode, tableBlocks, pages, wordIndex, tableEntry, gives, grants, allows}
 use Rattle.rules.specs.General.{added, endValue, entered}
 use Rattle.rules.specs.Link.{linkTo, linkRefusals, linkOutcome}
 use Rattle.rules.specs.Switch.{switchAfter}
 use Rattle.rules.specs.Guest.{ends, walk, fetches, needed}
-use Rattle.rules.specs.Steps.{Step, creates, maps, links, switches, accesses, obey, run, typed, told}
+use Rattle.rules.specs.Steps.{Step, creates, maps, links, switches, accesses, obey, run, typed, afterAccepted}
 use Rattle.rules.specs.Demand3.{Fetched, storeAt, toldAt}
 use Rattle.rules.specs.Policies.{FetchedCode}
 use Rattle.rules.proofs.Refusals.{Passed, done, step}
@@ -33,7 +34,7 @@ use Rattle.rules.proofs.Passing.{Taken, taken, no-misfit, inside, right
 use Rattle.rules.proofs.InTurn.{Alone, Went, map-goes}
 use Rattle.rules.proofs.Policies.{policies}
 use Rattle.rules.proofs.Accepted.{map-enters, page-grants, link-enters}
-use Rattle.rules.proofs.SmallStores.{ledger, lent}
+use Rattle.rules.proofs.SmallStores.{ledger, smallStore}
 use Rattle.rules.proofs.Blank.{golden, lawful, page-signed, begins-zeros, started, toldOf, Zeros, zeros-started, blank, eight, uncounted, create-zeros}
 
 abbrev pub toFetch : List Step
@@ -41,13 +42,13 @@ toFetch = creates l1 0 ∷ creates l2 4 ∷ links 0 0 4 0 ∷ maps pages 4 0 5 5
 
 -- the types once there are an L1 table and an L2 block
 abbrev withL1 : ℕ → ℕ
-withL1 = typed (λ b. typeD) 0 (tableBlocks l1) (code l1)
+withL1 = typed (λ b. typeD) 0 (tableBlocks l1) (typeCode l1)
 
 abbrev withBoth : ℕ → ℕ
-withBoth = typed withL1 4 (tableBlocks l2) (code l2)
+withBoth = typed withL1 4 (tableBlocks l2) (typeCode l2)
 
-is-L1 : (k : ℕ) → k < tableBlocks l1 → withBoth (0 + k) ≡ code l1
-is-L1 k l = typed-out withL1 4 1 (code l2) (0 + k) (λ h. omega arith) ∙ typed-in (λ b. typeD) 0 4 (code l1) (0 + k) (omega arith) (omega arith)
+is-L1 : (k : ℕ) → k < tableBlocks l1 → withBoth (0 + k) ≡ typeCode l1
+is-L1 k l = typed-out withL1 4 1 (typeCode l2) (0 + k) (λ h. omega arith) ∙ typed-in (λ b. typeD) 0 4 (typeCode l1) (0 + k) (omega arith) (omega arith)
 
 module _ {s : Store} (z : Zeros withBoth s) where
   link-passes : Passed (take 10 (linkRefusals s 0 0 4 0))
@@ -55,10 +56,10 @@ module _ {s : Store} (z : Zeros withBoth s) where
   link-passes =
       let based = z .runs .told-base in
       let n = eight z in
-      step (no-misfit (z .runs)) (step (inside (base s) (blocks s) 0 4 (omega arith) (omega arith)) (step refl (step refl (step refl (step (right-type (z .runs) l1 0 (code l1) (omega arith) (omega arith) is-L1)
+      step (no-misfit (z .runs)) (step (inside (base s) (blocks s) 0 4 (omega arith) (omega arith)) (step refl (step refl (step refl (step (right-type (z .runs) l1 0 (typeCode l1) (omega arith) (omega arith) is-L1)
       (step (le-ltb 0 (counter executable s 0) (omega (arith, uncounted z executable (0 - base s) (omega arith))))
       (step (any-avoids (λ k. not (isFault (tableEntry l1 s 0 (0 + k)))) 1 (λ k l. rw (blank z l1 _) refl))
-      (step (inside (base s) (blocks s) 4 1 (omega arith) (omega arith)) (step (same (typeOf s 4) (code l2) (type-told (z .runs) 4 (omega arith) (omega arith) ∙ refl)) done)))))))))
+      (step (inside (base s) (blocks s) 4 1 (omega arith) (omega arith)) (step (same (typeOf s 4) (typeCode l2) (type-told (z .runs) 4 (omega arith) (omega arith) ∙ refl)) done)))))))))
 
   link-taken : Taken (toldOf withBoth none) s (links 0 0 4 0) (entered s 0 0 1 (linkTo 4 0))
   unfolding obey linkOutcome
@@ -99,7 +100,7 @@ module _ {s : Store} (z : Zeros withBoth s) where
       }
 
   mapped : Went (toldOf withBoth none) linked (maps pages 4 0 5 5) 4 0 5 (page 5 5)
-  unfolding told
+  unfolding afterAccepted
   mapped = map-goes (link-taken .runs) lawful readExecute linked-alone
 
   abbrev ready : Store
@@ -107,7 +108,7 @@ module _ {s : Store} (z : Zeros withBoth s) where
 
   -- the table leads address 0 to block 5
   leads : walk 0 (blocks ready) (ready .memory) 0 0 ≡ ends l2 5 5
-  unfolding obey told
+  unfolding obey afterAccepted
   leads =
       let based = z .runs .told-base in
       let linked-based = link-taken .runs .told-base in
@@ -122,7 +123,7 @@ module _ {s : Store} (z : Zeros withBoth s) where
   switched = switch-taken (mapped .runs) 0 (record { low = omega arith; high = omega (arith, mapped .alone .high); aligned = refl; typed = is-L1 })
 
   fetched : obey golden (obey golden ready (switches 0) .after) (accesses fetches 0) .answer ≡ 0
-  unfolding obey told allows needed
+  unfolding obey afterAccepted allows needed
   fetched =
       let after = obey golden ready (switches 0) .after in
       let walked : walk 0 (blocks after) (after .memory) 0 0 ≡ ends l2 5 5 = rw (switched .leaves) leads in
@@ -144,8 +145,8 @@ sixth-accepted = ap (λ (ks : List ℕ). getElem? ks 5) fetch-accepted
 
 pub byte-fetched : Fetched (toldAt golden 0 started toFetch 5) (storeAt golden started toFetch 5) 0 byte
 unfolding run
-byte-fetched = demand3 golden (lent 0 ledger) 0 begins-zeros toFetch .fetched 5 0 byte refl sixth-accepted refl
+byte-fetched = demand3 golden (smallStore 0 ledger) 0 begins-zeros toFetch .fetched 5 0 byte refl sixth-accepted refl
 
 pub code-fetched : FetchedCode (toldAt golden 0 started toFetch 5) (storeAt golden started toFetch 5) 0 byte
 unfolding run
-code-fetched = policies golden (lent 0 ledger) 0 begins-zeros toFetch .fetched 5 0 byte refl sixth-accepted refl
+code-fetched = policies golden (smallStore 0 ledger) 0 begins-zeros toFetch .fetched 5 0 byte refl sixth-accepted refl

@@ -7,10 +7,10 @@ use native.Mathlib.Omega.{arith}
 use borrow.Author.Tests.{ltb-false, eqb-false}
 use Rattle.entries.specs.Entries.{Level, l1, l2}
 use Rattle.rules.specs.Store.{Store, blocks, base, active, Counter, writable, executable, linked, counter}
-use Rattle.rules.specs.Tables.{typeD, code, tableBlocks, entries, tableEntry}
+use Rattle.rules.specs.Tables.{typeD, typeCode, tableBlocks, entries, tableEntry}
 use Rattle.rules.specs.General.{removed, someOverrun, tableOutside, otherType}
 use Rattle.rules.specs.Free.{freeRefusals, freeAfter, freeOutcome, inUse}
-use Rattle.rules.specs.Steps.{frees, Told, told, typed}
+use Rattle.rules.specs.Steps.{frees, Told, afterAccepted, typed}
 use Rattle.rules.proofs.Refusals.{Passed, front, now, rest}
 use Rattle.rules.proofs.Consistent.{Suits}
 use Rattle.rules.proofs.State.{typeAt, recorded, activeWord, Running, equal, within, types-told, Next, next-13}
@@ -21,7 +21,7 @@ use Rattle.rules.proofs.Typing.{retold, retyped, typing-leaves, typing-
 record Freeable (v : Level) (s : Store) (p : ℕ) : Type 0 where
   table-inside : tableOutside v s p ≡ false
   aligned : p % tableBlocks v ≡ 0
-  typed : otherType v s p (code v) ≡ false
+  typed : otherType v s p (typeCode v) ≡ false
   unused : inUse v s p ≡ false
 
 freeable : (v : Level) (s : Store) (p : ℕ) → Passed (front (freeRefusals v s p)) → Freeable v s p
@@ -33,7 +33,7 @@ freeable v s p t1 =
 
 module _ (p : ℕ) {h : Told} {s : Store} (r : Running h s) where
   -- no entry that stays wrote to or led to what is freed
-  freed-suits : (c : Counter) (v : Level) (b : ℕ) → 0 < recorded s c b → inUse v s p ≡ false → p ≤ base s + b → base s + b < p + tableBlocks v → Suits c (code v) → Suits c typeD
+  freed-suits : (c : Counter) (v : Level) (b : ℕ) → 0 < recorded s c b → inUse v s p ≡ false → p ≤ base s + b → base s + b < p + tableBlocks v → Suits c (typeCode v) → Suits c typeD
   unfolding inUse
   freed-suits writable v b k u lo hi suits = refl
   freed-suits executable v b k u lo hi suits = tt
@@ -44,7 +44,7 @@ module _ (p : ℕ) {h : Told} {s : Store} (r : Running h s) where
       absurd z
 
   -- the table that was switched to isn't freed
-  not-root : (v : Level) (q : ℕ) → h .table ≡ some q → Freeable v s p → ((k : ℕ) → k < tableBlocks v → h .types (p + k) ≡ code v)
+  not-root : (v : Level) (q : ℕ) → h .table ≡ some q → Freeable v s p → ((k : ℕ) → k < tableBlocks v → h .types (p + k) ≡ typeCode v)
       → (x : ℕ) → p ≤ x → x < p + tableBlocks v → q ≤ x → x < q + tableBlocks l1 → ⊥
   unfolding inUse
   not-root l1 q z can was x lo hi lo′ hi′ =
@@ -52,25 +52,25 @@ module _ (p : ℕ) {h : Told} {s : Store} (r : Running h s) where
       let b = r .root q z .aligned in
       let same : q ≡ p = omega arith in
       eqb-false (active s) p (can .unused) (r .active-is ∙ ap activeWord z ∙ same)
-  not-root l2 q z can was x lo hi lo′ hi′ = other-table (h .types) p q (tableBlocks l2) (code l2) x was (r .root q z .typed) (λ e. omega arith) lo hi lo′ hi′
+  not-root l2 q z can was x lo hi lo′ hi′ = other-table (h .types) p q (tableBlocks l2) (typeCode l2) x was (r .root q z .typed) (λ e. omega arith) lo hi lo′ hi′
 
   freed : (v : Level) → Freeable v s p → (someOverrun removed s (entries v) (tableEntry v s p) ≡ false) × Running (retold removed v p h) (retyped removed v s p)
   freed v can =
       let (low, high) = within (base s) (blocks s) p (tableBlocks v) (can .table-inside) in
-      let was = types-told r v p (code v) (can .table-inside) (can .typed) in
+      let was = types-told r v p (typeCode v) (can .table-inside) (can .typed) in
       removes r (record {
         leaves = typing-leaves removed v p r low high (λ q z. root-stays removed v p r low high q z (not-root v q z can was));
         turn = typing-turned removed v p r low high was;
         carry = λ c b l k suits. stays removed v p r low high c b suits (λ lo hi. freed-suits c v b k (can .unused) lo hi (was-table v was c b lo hi suits));
         keep = λ b l x. refl;
       }) where
-        was-table : (v : Level) → ((k : ℕ) → k < tableBlocks v → h .types (p + k) ≡ code v) → (c : Counter) (b : ℕ) → p ≤ base s + b → base s + b < p + tableBlocks v
-            → Suits c (typeAt (base s) h b) → Suits c (code v)
+        was-table : (v : Level) → ((k : ℕ) → k < tableBlocks v → h .types (p + k) ≡ typeCode v) → (c : Counter) (b : ℕ) → p ≤ base s + b → base s + b < p + tableBlocks v
+            → Suits c (typeAt (base s) h b) → Suits c (typeCode v)
         was-table v was c b lo hi suits =
             let i : p + (base s + b - p) ≡ base s + b = omega arith in
             rw (rw i at (was (base s + b - p) (omega arith))) at suits
 
 pub free-next : (v : Level) (p : ℕ) {h : Told} {s : Store} → Running h s → Next h (frees v p) (freeOutcome v s p)
-unfolding freeOutcome told
+unfolding freeOutcome afterAccepted
 free-next v p {h} {s} r =
     next-13 (frees v p) (freeAfter v s p) (freeRefusals v s p) r (omega arith) (omega arith) (omega arith) (λ tests. freed p r v (freeable v s p tests))

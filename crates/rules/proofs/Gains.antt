@@ -4,10 +4,9 @@ use mathlib.Core.Path.{_≡_, refl, sym, _∙_, ap}
 use Prim.Native.Nat.{ℕ, _+_, _-_, _<_, _≤_}
 use native.Mathlib.Numerals.{add-one}
 use native.Mathlib.Omega.{arith}
-use borrow.Author.Tests.{lt-ltb, le-leb, ltb-true, leb-true}
-use lib.Dec.{leb, ltb}
+use borrow.Author.Tests.{lt-ltb}
 use Rattle.words.specs.Bounded.{above, any, sum, num}
-use Rattle.words.proofs.Bounded.{any-found, and-true-left, and-true-right}
+use Rattle.words.proofs.Bounded.{any-found, and-true, among-in, among-within}
 use Rattle.words.proofs.Sums.{sum-same, sum-cut, sum-window, count-most, count-hit, count-none, count-any}
 use Rattle.entries.specs.Entries.{Entry, fault, unaccepted, link, section, page, isFault, isLink, rights, first, size, covers}
 use Rattle.rules.specs.Store.{Counter, writable, executable, linked}
@@ -31,11 +30,7 @@ gives-fault linked p = refl
 pub gives-within : (c : Counter) (e : Entry) (p : ℕ) → gives c e p ≡ true → (grants c e ≡ true) × (first e ≤ p) × (p < first e + size e)
 unfolding gives covers
 gives-within c e p h =
-    let t = and-true-right (grants c e) (covers e p) h in (
-      and-true-left (grants c e) (covers e p) h,
-      leb-true (first e) p (and-true-left (leb (first e) p) (ltb p (first e + size e)) t),
-      ltb-true p (first e + size e) (and-true-right (leb (first e) p) (ltb p (first e + size e)) t),
-    )
+    let (g, t) = and-true (grants c e) (covers e p) h in let (lo, hi) = among-within (first e) (size e) p t in (g, lo, hi)
 
 -- what gives something has a place
 pub grants-size : (c : Counter) (e : Entry) → grants c e ≡ true → 0 < size e
@@ -53,7 +48,7 @@ grants-size linked unaccepted h = absurd (false≢true h)
 -- a block of the place of an entry that grants something is given it
 pub gives-at : (c : Counter) (e : Entry) (b : ℕ) → grants c e ≡ true → first e ≤ b → b < first e + size e → gives c e b ≡ true
 unfolding gives covers
-gives-at c e b g lo hi = rw (g, le-leb (first e) b lo, lt-ltb b (first e + size e) hi) refl
+gives-at c e b g lo hi = rw (g, among-in (first e) (size e) b lo hi) refl
 
 module _ (m : ℕ) (e : ℕ → Entry) (c : Counter) (p : ℕ) where
   pub gain-most : gain m e c p ≤ m

@@ -16,12 +16,12 @@ use Rattle.words.proofs.Words.{word-cong}
 use Rattle.entries.specs.Entries.{Entry, Level, l1, rights}
 use Rattle.entries.proofs.Decoding.{entryAt-cong}
 use Rattle.rules.specs.Refusals.{Refusal, _if_, answerOf}
-use Rattle.rules.specs.Store.{blockBytes, blockWords, Store, blocks, base, active, recordWord, Counter, writable, executable, counterPlace, misfit}
+use Rattle.rules.specs.Store.{blockBytes, blockWords, Store, blocks, base, active, recordWord, Counter, writable, executable, counterWord, misfit}
 use Rattle.rules.specs.Signature.{contents, certified}
 use Rattle.rules.specs.Tables.{typeD, tableBlocks, allows, grants, gives}
 use Rattle.rules.specs.General.{tableOutside, misaligned}
 use Rattle.rules.specs.Guest.{Walk, stops, ends, byteIndex, Access, reads, fetches, writes, needed, walkRefusals, noActiveTable, activeWalk, guestRefusals, written, byteGiven, guestAfter, guestOutcome}
-use Rattle.rules.specs.Steps.{accesses, Told, told}
+use Rattle.rules.specs.Steps.{accesses, Told, afterAccepted}
 use Rattle.rules.specs.Demand3.{KeepsTables, Fetched}
 use Rattle.rules.proofs.Refusals.{Passed, Avoids, now, rest, passed, avoided}
 use Rattle.rules.proofs.Memory.{contents-set, certified-same}
@@ -96,7 +96,7 @@ module _ {h : Told} {s : Store} (r : Running h s) where
 
   -- the entry that a walk ended at is counted for what it grants
   pub arrived-counted : (c : Counter) {p w : ℕ} (e : Reached (base s) (blocks s) (entryOf (base s) h (s .memory)) p w)
-      → grants c (entryOf (base s) h (s .memory) (e .word)) ≡ true → (0 < recordWord (s .ledger) (counterPlace c) (p - base s)) × Suits c (h .types p)
+      → grants c (entryOf (base s) h (s .memory) (e .word)) ≡ true → (0 < recordWord (s .ledger) (counterWord c) (p - base s)) × Suits c (h .types p)
   unfolding gives
   arrived-counted c {p} {w} e g =
       let low = e .low in
@@ -107,7 +107,7 @@ module _ {h : Told} {s : Store} (r : Running h s) where
       (counted (r .consistent) c (p - base s) (e .word) inside (e .in-memory) gave, subst (λ (q : ℕ). Suits c (h .types q)) is (r .consistent .sound (e .word) (e .in-memory) .suits c (p - base s) inside gave))
 
   -- a byte written into data that cannot be executed
-  module _ (b j v : ℕ) (in-block : j / blockBytes ≡ b) (free : h .types (base s + b) ≡ typeD) (unexecuted : recordWord (s .ledger) (counterPlace executable) b ≡ 0) where
+  module _ (b j v : ℕ) (in-block : j / blockBytes ≡ b) (free : h .types (base s + b) ≡ typeD) (unexecuted : recordWord (s .ledger) (counterWord executable) b ≡ 0) where
     wrote : Store
     wrote = record { memory = set (s .memory) j v; ledger = s .ledger }
 
@@ -181,7 +181,7 @@ module _ {h : Told} {s : Store} (r : Running h s) where
       }
 
   pub guest-next : (a : Access) (addr : ℕ) → Next h (accesses a addr) (guestOutcome a s addr)
-  unfolding guestOutcome told
+  unfolding guestOutcome afterAccepted
   guest-next a addr =
       next (accesses a addr) (guestAfter a s addr) (answerOf (guestRefusals a s addr)) (byteGiven a (s .memory) (byteIndex (base s) addr (activeWalk s addr))) r
       (guest-avoids a addr 13 (omega arith))

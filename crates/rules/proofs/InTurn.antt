@@ -7,20 +7,20 @@ use mathlib.Core.Path.{_≡_, refl, sym, _∙_, ap, subst}
 use Prim.Native.Nat.{ℕ, _+_, _-_, _*_, _%_, _^_, _<_, _≤_}
 use native.Mathlib.Nat.{add-zero, zero-add, mod-one}
 use native.Mathlib.Omega.{arith}
-use lib.Dec.{leb, ltb}
 use lib.ListN.{take}
-use borrow.Author.Tests.{le-ltb, le-leb, lt-leb, lt-ltb, leb-true, ltb-true}
-use Rattle.words.specs.Bounded.{above, neqb, sum, num}
-use Rattle.words.proofs.Bounded.{any-avoids, false-unless, and-true-left, and-true-right, same}
+use borrow.Author.Tests.{le-ltb, lt-leb}
+use Rattle.words.specs.Bounded.{above, neqb, among, sum, num}
+use Rattle.words.proofs.Bounded.{any-avoids, false-unless, and-true-right, same, among-in, among-within}
 use Rattle.entries.specs.Entries.{Entry, fault, page, l2, entryAt, isFault, rights, first, size, covers}
-use Rattle.entries.specs.Written.{wordOf, cacheable, Encodable, a-fault, a-page, Grantable, none, read, readWrite, readExecute}
-use Rattle.rules.specs.Store.{blockWords, limit, Store, blocks, base, Counter, writable, executable, counter, typeOf, someBlock, fill}
+use Rattle.entries.specs.Written.{wordOf, cacheable}
+use Rattle.entries.proofs.RoundTrip.{Encodable, a-fault, a-page, Grantable, none, read, readWrite, readExecute}
+use Rattle.rules.specs.Store.{blockWords, counterLimit, Store, blocks, base, Counter, writable, executable, counter, typeOf, someBlock, fill}
 use Rattle.rules.specs.Signature.{misfitImage, certified}
-use Rattle.rules.specs.Tables.{typeD, code, entries, pages, wordIndex, tableEntry, write, execute, allows, grants, gives, gain}
+use Rattle.rules.specs.Tables.{typeD, typeCode, entries, pages, wordIndex, tableEntry, write, execute, allows, grants, gives, gain}
 use Rattle.rules.specs.General.{tableOutside, otherType, holder, executableHolder, Change, added, removed, endValue, recounted, occupied, entered}
 use Rattle.rules.specs.Map.{unlawfulRights, unfitTarget, clashingTarget, unsignedTarget, mapRefusals, mapOutcome}
 use Rattle.rules.specs.Unmap.{unmapRefusals, unmapAfter, unmapOutcome}
-use Rattle.rules.specs.Steps.{Step, maps, unmaps, obey, run, Told, told}
+use Rattle.rules.specs.Steps.{Step, maps, unmaps, obey, run, Told, afterAccepted}
 use Rattle.rules.specs.Policies.{WritableByOneEntry, thereAndBack}
 use Rattle.rules.proofs.Refusals.{Passed, done, step}
 use Rattle.rules.proofs.Gains.{gives-fault, gives-within, gain-most}
@@ -37,7 +37,7 @@ use Rattle.rules.proofs.Removals.{none-unaccepted, none-astray}
 pub record Alone (B : ℕ) (h : Told) (s : Store) (p i t : ℕ) (e : Entry) : Type 0 where
   pub table-low : B ≤ p
   pub table-high : p < B + blocks s
-  pub table : h .types p ≡ code l2
+  pub table : h .types p ≡ typeCode l2
   pub index : i < entries l2
   pub low : B ≤ t
   pub high : t < B + blocks s
@@ -52,14 +52,14 @@ unfolding gain sum
 gain-one x c q = zero-add (num (gives c (x 0) q))
 
 -- one entry more or less leaves a counter a word
-end-small : (d : Change) (old k : ℕ) → old ≤ limit → k ≤ 1 → endValue d old k < 2 ^ 32
+end-small : (d : Change) (old k : ℕ) → old ≤ counterLimit → k ≤ 1 → endValue d old k < 2 ^ 32
 unfolding endValue
 end-small added old k l o = omega arith
 end-small removed old k l o = omega arith
 
 module _ {h : Told} {s : Store} (r : Running h s) {p i t : ℕ} {e : Entry} (a : Alone (base s) h s p i t e) where
   other : t ≢ p
-  other q = let z : typeD ≡ code l2 = sym (a .free) ∙ ap (h .types) q ∙ a .table in omega arith
+  other q = let z : typeD ≡ typeCode l2 = sym (a .free) ∙ ap (h .types) q ∙ a .table in omega arith
 
   -- what the entry gives is counted
   given-counted : (c : Counter) → num (gives c e t) ≤ recorded s c (t - base s)
@@ -112,8 +112,8 @@ module _ {h : Told} {s : Store} (r : Running h s) {p i t : ℕ} {e : Entry} (a :
   table-inside : tableOutside l2 s p ≡ false
   table-inside = inside (base s) (blocks s) p 1 (a .table-low) (omega arith)
 
-  typed : otherType l2 s p (code l2) ≡ false
-  typed = right-type r l2 p (code l2) (a .table-low) (omega arith) (λ k l. let z : p + k ≡ p = omega arith in ap (h .types) z ∙ a .table)
+  typed : otherType l2 s p (typeCode l2) ≡ false
+  typed = right-type r l2 p (typeCode l2) (a .table-low) (omega arith) (λ k l. let z : p + k ≡ p = omega arith in ap (h .types) z ∙ a .table)
 
   own-holder : holder p i ≡ p
   own-holder = omega arith
@@ -159,11 +159,9 @@ module _ {h : Told} {s : Store} (r : Running h s) {p i t q : ℕ} (a : Alone (ba
   fit-target : unfitTarget pages s p i t q ≡ false
   unfolding unfitTarget
   fit-target =
-      let own = allows q execute && leb t (holder p i) in
       rw (inside (base s) (blocks s) t 1 (a .low) (omega arith), one-block t (λ b. neqb (typeOf s b) typeD) (same (typeOf s t) typeD (type-told r t (a .low) (a .high) ∙ a .free)), and-false (allows q write))
-      (false-unless (own && ltb (holder p i) (t + 1)) (λ e.
-      let lo = leb-true t (holder p i) (and-true-right (allows q execute) (leb t (holder p i)) (and-true-left own (ltb (holder p i) (t + 1)) e)) in
-      let hi = ltb-true (holder p i) (t + 1) (and-true-right own (ltb (holder p i) (t + 1)) e) in
+      (false-unless (allows q execute && among t 1 (holder p i)) (λ e.
+      let (lo, hi) = among-within t 1 (holder p i) (and-true-right (allows q execute) (among t 1 (holder p i)) e) in
       other r a (omega (arith, own-holder r a))))
 
   clear-target : clashingTarget pages s t q ≡ false
@@ -198,20 +196,20 @@ pub record Went (h : Told) (s : Store) (call : Step) (p i t : ℕ) (e : Entry) :
   pub alone : Alone (h .B) h (obey (h .golden) s call .after) p i t e
 
 -- a call that tells nothing
-goes : {h : Told} {s : Store} → Running h s → {call : Step} {after : Store} {p i t : ℕ} {e : Entry} → Taken h s call after → told h call ≡ h → Alone (base s) h after p i t e
+goes : {h : Told} {s : Store} → Running h s → {call : Step} {after : Store} {p i t : ℕ} {e : Entry} → Taken h s call after → afterAccepted h call ≡ h → Alone (base s) h after p i t e
     → Went h s call p i t e
 goes {h} r {call} {after} {p} {i} {t} {e} took silent alone =
     record { accepted = took .accepted; runs = rw silent at (took .runs); alone = rw (took .leaves) (subst (λ (b : ℕ). Alone b h after p i t e) (sym (r .told-base)) alone) }
 
 module _ {h : Told} {s : Store} (r : Running h s) {p i t : ℕ} where
   unmap-goes : {e : Entry} → Alone (h .B) h s p i t e → Went h s (unmaps pages p i) p i t fault
-  unfolding obey unmapOutcome told
+  unfolding obey unmapOutcome afterAccepted
   unmap-goes {e} alone =
       let a = subst (λ (b : ℕ). Alone b h s p i t e) (r .told-base) alone in
       goes r (taken r (unmaps pages p i) _ (unmapAfter pages s p i) refl (unmap-passes r a)) refl (unmap-alone r a)
 
   pub map-goes : {q : ℕ} → misfitImage (h .golden) ≡ false → Grantable q → Alone (h .B) h s p i t fault → Went h s (maps pages p i t q) p i t (page t q)
-  unfolding obey mapOutcome told
+  unfolding obey mapOutcome afterAccepted
   map-goes {q} image g alone =
       let a = subst (λ (b : ℕ). Alone b h s p i t fault) (r .told-base) alone in
       goes r (taken r (maps pages p i t q) _ (entered s p i 1 (page t q)) refl (map-passes r a image g)) refl (map-alone r a image g)
@@ -220,7 +218,7 @@ module _ {h : Told} {s : Store} (r : Running h s) {p i t : ℕ} where
 
 page-gives : (t : ℕ) → (gives writable (page t 3) t ≡ true) × (gives executable (page t 3) t ≡ false)
 unfolding gives grants allows rights covers first size
-page-gives t = (rw (le-leb t t (omega arith), lt-ltb t (t + 1) (omega arith)) refl, refl)
+page-gives t = (rw (among-in t 1 t (omega arith) (omega arith)) refl, refl)
 
 module _ {h : Told} {s : Store} (r : Running h s) {p i t : ℕ} where
   -- the entry is sound and counted, so that its target is data and not executable

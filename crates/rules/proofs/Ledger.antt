@@ -5,32 +5,31 @@ use mathlib.Core.Path.{_≡_, refl, sym, _∙_}
 use Prim.Native.Nat.{ℕ, zero, suc, _+_, _*_, _^_, _<_, _≤_}
 use native.Mathlib.Omega.{arith}
 use lib.ListN.{length}
-use borrow.Author.Tests.{lt-ltb, le-ltb, le-leb, lt-leb}
 use Rattle.words.specs.Words.{word, putWord}
-use Rattle.words.proofs.Bounded.{last-or-below, below-or-above}
+use Rattle.words.proofs.Bounded.{last-or-below, below-or-above, among-in, among-out}
 use Rattle.words.proofs.Words.{length-putWord, word-putWord-same, word-putWord-other}
-use Rattle.rules.specs.Store.{head, width, recordWord, putRecordWord, typePlace, Counter, writable, executable, linked, counterPlace, retype, putCounters, recount}
+use Rattle.rules.specs.Store.{ledgerHeadBytes, ledgerRecordBytes, recordWord, putRecordWord, typeWord, Counter, writable, executable, linked, counterWord, retype, putCounters, recount}
 use Rattle.rules.specs.Steps.{typed}
 
 -- One word of a record
 
 -- word k lies in a record
 abbrev pub InRecord : ℕ → Type 0
-InRecord k = 4 * k + 4 ≤ width
+InRecord k = 4 * k + 4 ≤ ledgerRecordBytes
 
-pub counter-in-record : (c : Counter) → InRecord (counterPlace c)
+pub counter-in-record : (c : Counter) → InRecord (counterWord c)
 counter-in-record writable = omega arith
 counter-in-record executable = omega arith
 counter-in-record linked = omega arith
 
-pub counter-not-type : (c : Counter) → typePlace ≢ counterPlace c
+pub counter-not-type : (c : Counter) → typeWord ≢ counterWord c
 counter-not-type writable = λ e. omega arith
 counter-not-type executable = λ e. omega arith
 counter-not-type linked = λ e. omega arith
 
 -- two words of records that are not the same lie apart
 pub records-apart : (k b j c : ℕ) → InRecord k → InRecord j → (b ≡ c → k ≢ j)
-    → head + width * c + 4 * j < head + width * b + 4 * k + 4 → head + width * c + 4 * j + 4 ≤ head + width * b + 4 * k
+    → ledgerHeadBytes + ledgerRecordBytes * c + 4 * j < ledgerHeadBytes + ledgerRecordBytes * b + 4 * k + 4 → ledgerHeadBytes + ledgerRecordBytes * c + 4 * j + 4 ≤ ledgerHeadBytes + ledgerRecordBytes * b + 4 * k
 records-apart k b j c ik ij o l =
     ⊎-elim (λ (s : c < b). omega arith)
     (λ (s : b ≤ c). ⊎-elim (λ (t : b < c). omega arith) (λ (t : c ≤ b). let d = o (omega arith) in omega arith) (below-or-above b c))
@@ -39,37 +38,37 @@ records-apart k b j c ik ij o l =
 module _ (led : List ℕ) (k b v : ℕ) where
   pub length-putRecordWord : length (putRecordWord led k b v) ≡ length led
   unfolding putRecordWord
-  length-putRecordWord = length-putWord led (head + width * b + 4 * k) v
+  length-putRecordWord = length-putWord led (ledgerHeadBytes + ledgerRecordBytes * b + 4 * k) v
 
-  pub head-putRecordWord : (a : ℕ) → a + 4 ≤ head → word (putRecordWord led k b v) a ≡ word led a
+  pub head-putRecordWord : (a : ℕ) → a + 4 ≤ ledgerHeadBytes → word (putRecordWord led k b v) a ≡ word led a
   unfolding putRecordWord
-  head-putRecordWord a h = word-putWord-other led (head + width * b + 4 * k) v a (λ l. omega arith)
+  head-putRecordWord a h = word-putWord-other led (ledgerHeadBytes + ledgerRecordBytes * b + 4 * k) v a (λ l. omega arith)
 
-  pub recordWord-put-same : InRecord k → (n : ℕ) → length led ≡ head + width * n → b < n → v < 2 ^ 32 → recordWord (putRecordWord led k b v) k b ≡ v
+  pub recordWord-put-same : InRecord k → (n : ℕ) → length led ≡ ledgerHeadBytes + ledgerRecordBytes * n → b < n → v < 2 ^ 32 → recordWord (putRecordWord led k b v) k b ≡ v
   unfolding recordWord putRecordWord
-  recordWord-put-same i n e l h = word-putWord-same led (head + width * b + 4 * k) v (omega arith) h
+  recordWord-put-same i n e l h = word-putWord-same led (ledgerHeadBytes + ledgerRecordBytes * b + 4 * k) v (omega arith) h
 
   -- a word of another record, or another word of this one
   pub recordWord-put-other : (j c : ℕ) → InRecord k → InRecord j → (b ≡ c → k ≢ j) → recordWord (putRecordWord led k b v) j c ≡ recordWord led j c
   unfolding recordWord putRecordWord
-  recordWord-put-other j c ik ij o = word-putWord-other led (head + width * b + 4 * k) v (head + width * c + 4 * j) (records-apart k b j c ik ij o)
+  recordWord-put-other j c ik ij o = word-putWord-other led (ledgerHeadBytes + ledgerRecordBytes * b + 4 * k) v (ledgerHeadBytes + ledgerRecordBytes * c + 4 * j) (records-apart k b j c ik ij o)
 
 -- a word before the records
-pub recordWord-put-head : (led : List ℕ) (a v k b : ℕ) → a + 4 ≤ head → recordWord (putWord led a v) k b ≡ recordWord led k b
+pub recordWord-put-head : (led : List ℕ) (a v k b : ℕ) → a + 4 ≤ ledgerHeadBytes → recordWord (putWord led a v) k b ≡ recordWord led k b
 unfolding recordWord
-recordWord-put-head led a v k b h = word-putWord-other led a v (head + width * b + 4 * k) (λ l. omega arith)
+recordWord-put-head led a v k b h = word-putWord-other led a v (ledgerHeadBytes + ledgerRecordBytes * b + 4 * k) (λ l. omega arith)
 
 -- Types
 
 module _ {A : Type 0} (P : List ℕ → A) (led : List ℕ) where
   -- whatever every store of a type leaves alone is left alone
-  pub retype-keeps : (b m t : ℕ) → ((l : List ℕ) (c : ℕ) → b ≤ c → c < b + m → P (putRecordWord l typePlace c t) ≡ P l) → P (retype led b m t) ≡ P led
+  pub retype-keeps : (b m t : ℕ) → ((l : List ℕ) (c : ℕ) → b ≤ c → c < b + m → P (putRecordWord l typeWord c t) ≡ P l) → P (retype led b m t) ≡ P led
   unfolding retype
   retype-keeps b zero t h = refl
   retype-keeps b (suc m) t h = h (retype led b m t) (b + m) (omega arith) (omega arith) ∙ retype-keeps b m t (λ l c lo hi. h l c lo (omega arith))
 
   -- and so with the counters
-  pub recount-keeps : (n : ℕ) (f : Counter → ℕ → ℕ) → ((l : List ℕ) (c : Counter) (b v : ℕ) → b < n → P (putRecordWord l (counterPlace c) b v) ≡ P l) → P (recount led n f) ≡ P led
+  pub recount-keeps : (n : ℕ) (f : Counter → ℕ → ℕ) → ((l : List ℕ) (c : Counter) (b v : ℕ) → b < n → P (putRecordWord l (counterWord c) b v) ≡ P l) → P (recount led n f) ≡ P led
   unfolding recount
   recount-keeps zero f h = refl
   recount-keeps (suc n) f h =
@@ -78,30 +77,30 @@ module _ {A : Type 0} (P : List ℕ → A) (led : List ℕ) where
 
 module _ (led : List ℕ) (b m t : ℕ) where
   pub length-retype : length (retype led b m t) ≡ length led
-  length-retype = retype-keeps length led b m t (λ l c lo hi. length-putRecordWord l typePlace c t)
+  length-retype = retype-keeps length led b m t (λ l c lo hi. length-putRecordWord l typeWord c t)
 
-  pub head-retype : (a : ℕ) → a + 4 ≤ head → word (retype led b m t) a ≡ word led a
-  head-retype a h = retype-keeps (λ l. word l a) led b m t (λ l c lo hi. head-putRecordWord l typePlace c t a h)
+  pub head-retype : (a : ℕ) → a + 4 ≤ ledgerHeadBytes → word (retype led b m t) a ≡ word led a
+  head-retype a h = retype-keeps (λ l. word l a) led b m t (λ l c lo hi. head-putRecordWord l typeWord c t a h)
 
-  pub counter-retype : (c : Counter) (j : ℕ) → recordWord (retype led b m t) (counterPlace c) j ≡ recordWord led (counterPlace c) j
+  pub counter-retype : (c : Counter) (j : ℕ) → recordWord (retype led b m t) (counterWord c) j ≡ recordWord led (counterWord c) j
   counter-retype c j =
-      retype-keeps (λ l. recordWord l (counterPlace c) j) led b m t
-      (λ l i lo hi. recordWord-put-other l typePlace i t (counterPlace c) j (omega arith) (counter-in-record c) (λ e. counter-not-type c))
+      retype-keeps (λ l. recordWord l (counterWord c) j) led b m t
+      (λ l i lo hi. recordWord-put-other l typeWord i t (counterWord c) j (omega arith) (counter-in-record c) (λ e. counter-not-type c))
 
-  pub type-retype-out : (j : ℕ) → (b ≤ j → b + m ≤ j) → recordWord (retype led b m t) typePlace j ≡ recordWord led typePlace j
+  pub type-retype-out : (j : ℕ) → (b ≤ j → b + m ≤ j) → recordWord (retype led b m t) typeWord j ≡ recordWord led typeWord j
   type-retype-out j o =
-      retype-keeps (λ l. recordWord l typePlace j) led b m t
-      (λ l i lo hi. recordWord-put-other l typePlace i t typePlace j (omega arith) (omega arith) (λ e z. omega (arith, o (omega arith))))
+      retype-keeps (λ l. recordWord l typeWord j) led b m t
+      (λ l i lo hi. recordWord-put-other l typeWord i t typeWord j (omega arith) (omega arith) (λ e z. omega (arith, o (omega arith))))
 
-pub type-retype-in : (led : List ℕ) (b m t n j : ℕ) → length led ≡ head + width * n → b + m ≤ n → t < 2 ^ 32 → b ≤ j → j < b + m
-    → recordWord (retype led b m t) typePlace j ≡ t
+pub type-retype-in : (led : List ℕ) (b m t n j : ℕ) → length led ≡ ledgerHeadBytes + ledgerRecordBytes * n → b + m ≤ n → t < 2 ^ 32 → b ≤ j → j < b + m
+    → recordWord (retype led b m t) typeWord j ≡ t
 unfolding retype
 type-retype-in led b zero t n j e f h lo hi = let z : ⊥ = omega arith in absurd z
 type-retype-in led b (suc m) t n j e f h lo hi =
     ⊎-elim
-    (λ (q : j ≡ b + m). rw q (recordWord-put-same (retype led b m t) typePlace (b + m) t (omega arith) n (length-retype led b m t ∙ e) (omega arith) h))
+    (λ (q : j ≡ b + m). rw q (recordWord-put-same (retype led b m t) typeWord (b + m) t (omega arith) n (length-retype led b m t ∙ e) (omega arith) h))
     (λ (l : j < b + m).
-    recordWord-put-other (retype led b m t) typePlace (b + m) t typePlace j (omega arith) (omega arith) (λ q z. omega arith)
+    recordWord-put-other (retype led b m t) typeWord (b + m) t typeWord j (omega arith) (omega arith) (λ q z. omega arith)
     ∙ type-retype-in led b m t n j e (omega arith) h lo l)
     (last-or-below {i = j} {n = b + m} (omega arith))
 
@@ -109,48 +108,48 @@ type-retype-in led b (suc m) t n j e f h lo hi =
 
 module _ (led : List ℕ) (n : ℕ) (f : Counter → ℕ → ℕ) where
   pub length-recount : length (recount led n f) ≡ length led
-  length-recount = recount-keeps length led n f (λ l c b v i. length-putRecordWord l (counterPlace c) b v)
+  length-recount = recount-keeps length led n f (λ l c b v i. length-putRecordWord l (counterWord c) b v)
 
-  pub head-recount : (a : ℕ) → a + 4 ≤ head → word (recount led n f) a ≡ word led a
-  head-recount a h = recount-keeps (λ l. word l a) led n f (λ l c b v i. head-putRecordWord l (counterPlace c) b v a h)
+  pub head-recount : (a : ℕ) → a + 4 ≤ ledgerHeadBytes → word (recount led n f) a ≡ word led a
+  head-recount a h = recount-keeps (λ l. word l a) led n f (λ l c b v i. head-putRecordWord l (counterWord c) b v a h)
 
-  pub type-recount : (j : ℕ) → recordWord (recount led n f) typePlace j ≡ recordWord led typePlace j
+  pub type-recount : (j : ℕ) → recordWord (recount led n f) typeWord j ≡ recordWord led typeWord j
   type-recount j =
-      recount-keeps (λ l. recordWord l typePlace j) led n f
-      (λ l c b v i. recordWord-put-other l (counterPlace c) b v typePlace j (counter-in-record c) (omega arith) (λ e z. counter-not-type c (sym z)))
+      recount-keeps (λ l. recordWord l typeWord j) led n f
+      (λ l c b v i. recordWord-put-other l (counterWord c) b v typeWord j (counter-in-record c) (omega arith) (λ e z. counter-not-type c (sym z)))
 
 -- the counters of one block
 module _ (led : List ℕ) (b : ℕ) (f : Counter → ℕ) where
   one : List ℕ
-  one = putRecordWord led (counterPlace writable) b (f writable)
+  one = putRecordWord led (counterWord writable) b (f writable)
 
   two : List ℕ
-  two = putRecordWord one (counterPlace executable) b (f executable)
+  two = putRecordWord one (counterWord executable) b (f executable)
 
-  passes-over : (l : List ℕ) (v : ℕ) (c d : Counter) (j : ℕ) → (b ≡ j → counterPlace c ≢ counterPlace d)
-      → recordWord (putRecordWord l (counterPlace c) b v) (counterPlace d) j ≡ recordWord l (counterPlace d) j
-  passes-over l v c d j = recordWord-put-other l (counterPlace c) b v (counterPlace d) j (counter-in-record c) (counter-in-record d)
+  passes-over : (l : List ℕ) (v : ℕ) (c d : Counter) (j : ℕ) → (b ≡ j → counterWord c ≢ counterWord d)
+      → recordWord (putRecordWord l (counterWord c) b v) (counterWord d) j ≡ recordWord l (counterWord d) j
+  passes-over l v c d j = recordWord-put-other l (counterWord c) b v (counterWord d) j (counter-in-record c) (counter-in-record d)
 
-  counter-put-other : (c : Counter) (j : ℕ) → b ≢ j → recordWord (putCounters led b f) (counterPlace c) j ≡ recordWord led (counterPlace c) j
+  counter-put-other : (c : Counter) (j : ℕ) → b ≢ j → recordWord (putCounters led b f) (counterWord c) j ≡ recordWord led (counterWord c) j
   unfolding one two
   counter-put-other c j o =
       passes-over two (f linked) linked c j (λ e. absurd (o e)) ∙ passes-over one (f executable) executable c j (λ e. absurd (o e))
       ∙ passes-over led (f writable) writable c j (λ e. absurd (o e))
 
-  counter-put-same : (n : ℕ) → length led ≡ head + width * n → b < n → (c : Counter) → f c < 2 ^ 32 → recordWord (putCounters led b f) (counterPlace c) b ≡ f c
+  counter-put-same : (n : ℕ) → length led ≡ ledgerHeadBytes + ledgerRecordBytes * n → b < n → (c : Counter) → f c < 2 ^ 32 → recordWord (putCounters led b f) (counterWord c) b ≡ f c
   unfolding one two
   counter-put-same n e l writable h =
       passes-over two (f linked) linked writable b (λ _ z. omega arith) ∙ passes-over one (f executable) executable writable b (λ _ z. omega arith)
-      ∙ recordWord-put-same led (counterPlace writable) b (f writable) (omega arith) n e l h
+      ∙ recordWord-put-same led (counterWord writable) b (f writable) (omega arith) n e l h
   counter-put-same n e l executable h =
       passes-over two (f linked) linked executable b (λ _ z. omega arith)
-      ∙ recordWord-put-same one (counterPlace executable) b (f executable) (omega arith) n (length-putRecordWord led 1 b (f writable) ∙ e) l h
+      ∙ recordWord-put-same one (counterWord executable) b (f executable) (omega arith) n (length-putRecordWord led 1 b (f writable) ∙ e) l h
   counter-put-same n e l linked h =
-      recordWord-put-same two (counterPlace linked) b (f linked) (omega arith) n
+      recordWord-put-same two (counterWord linked) b (f linked) (omega arith) n
       (length-putRecordWord one 2 b (f executable) ∙ length-putRecordWord led 1 b (f writable) ∙ e) l h
 
-pub counter-recount : (led : List ℕ) (k n : ℕ) (f : Counter → ℕ → ℕ) → length led ≡ head + width * n → k ≤ n → (c : Counter) (b : ℕ) → b < k → f c b < 2 ^ 32
-    → recordWord (recount led k f) (counterPlace c) b ≡ f c b
+pub counter-recount : (led : List ℕ) (k n : ℕ) (f : Counter → ℕ → ℕ) → length led ≡ ledgerHeadBytes + ledgerRecordBytes * n → k ≤ n → (c : Counter) (b : ℕ) → b < k → f c b < 2 ^ 32
+    → recordWord (recount led k f) (counterWord c) b ≡ f c b
 unfolding recount
 counter-recount led zero n f e le c b l h = let z : ⊥ = omega arith in absurd z
 counter-recount led (suc k) n f e le c b l h =
@@ -164,11 +163,8 @@ counter-recount led (suc k) n f e le c b l h =
 module _ (types : ℕ → ℕ) (p m t b : ℕ) where
   pub typed-in : p ≤ b → b < p + m → typed types p m t b ≡ t
   unfolding typed
-  typed-in lo hi = rw (le-leb p b lo, lt-ltb b (p + m) hi) refl
+  typed-in lo hi = rw (among-in p m b lo hi) refl
 
   pub typed-out : (p ≤ b → p + m ≤ b) → typed types p m t b ≡ types b
   unfolding typed
-  typed-out o =
-      ⊎-elim (λ (l : b < p). rw (lt-leb p b l) refl)
-      (λ (l : p ≤ b). rw (le-leb p b l, le-ltb b (p + m) (o l)) refl)
-      (below-or-above b p)
+  typed-out o = rw (among-out p m b o) refl

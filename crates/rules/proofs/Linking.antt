@@ -4,13 +4,13 @@ use mathlib.Core.Path.{_≡_, refl, sym, _∙_}
 use Prim.Native.Nat.{ℕ, _+_, _*_, _/_, _<_, _≤_}
 use native.Mathlib.Omega.{arith}
 use borrow.Author.Tests.{leb-false}
-use Rattle.entries.specs.Entries.{l1, l2, isUnaccepted, rights, first, size}
-use Rattle.entries.specs.Written.{Encodable, a-link}
+use Rattle.entries.specs.Entries.{l1, l2, isUnaccepted, rights, first, size, blockTables}
+use Rattle.entries.proofs.RoundTrip.{Encodable, a-link}
 use Rattle.rules.specs.Store.{Store, blocks, base, Counter, writable, executable, linked, typeOf}
-use Rattle.rules.specs.Tables.{code, tableBlocks, allows, grants, gives, astray, blockTables}
+use Rattle.rules.specs.Tables.{typeCode, tableBlocks, allows, grants, gives, astray}
 use Rattle.rules.specs.General.{occupied, entered, tableOutside, beyondTable, otherType, executableHolder, added, someOverrun}
 use Rattle.rules.specs.Link.{linkTo, linkRefusals, linkOutcome}
-use Rattle.rules.specs.Steps.{links, Told, told}
+use Rattle.rules.specs.Steps.{links, Told, afterAccepted}
 use Rattle.rules.proofs.Refusals.{Passed, front, now, rest}
 use Rattle.rules.proofs.Gains.{gives-within}
 use Rattle.rules.proofs.Consistent.{Suits, Sound}
@@ -22,12 +22,12 @@ pub record Linkable (s : Store) (p i t j : ℕ) : Type 0 where
   pub region : Fit (base s) (blocks s) s
   pub table-inside : tableOutside l1 s p ≡ false
   pub index-inside : beyondTable l1 i ≡ false
-  pub typed : otherType l1 s p (code l1) ≡ false
+  pub typed : otherType l1 s p (typeCode l1) ≡ false
   pub unexecuted-holder : executableHolder s p i ≡ false
   pub free : occupied l1 s p i 1 ≡ false
   pub table : j < blockTables
   pub target-inside : tableOutside l2 s t ≡ false
-  pub target-type : typeOf s t ≡ code l2
+  pub target-type : typeOf s t ≡ typeCode l2
 
 pub linkable : (s : Store) (p i t j : ℕ) → Passed (front (linkRefusals s p i t j)) → Linkable s p i t j
 linkable s p i t j t1 =
@@ -47,7 +47,7 @@ linkable s p i t j t1 =
       free = now t8;
       table = leb-false blockTables j (now t4′);
       target-inside = now t10;
-      target-type = equal (typeOf s t) (code l2) (now (rest t10));
+      target-type = equal (typeOf s t) (typeCode l2) (now (rest t10));
     }
 
 pub link-written : {s : Store} {p i t j : ℕ} → Linkable s p i t j → Encodable l1 (linkTo t j)
@@ -59,7 +59,7 @@ module _ (p i t j : ℕ) {h : Told} {s : Store} (r : Running h s) (can : Linkabl
   unfolding gives grants allows rights isUnaccepted astray size first
   link-sound =
       let (low, high) = within (base s) (blocks s) t (tableBlocks l2) (can .target-inside) in
-      let is : (blockTables * t + j) / 4 ≡ t = omega arith in
+      let is : (blockTables * t + j) / blockTables ≡ t = omega arith in
       record { accepted = refl; inside = rw is (can .target-inside); suits = suits low high } where
         suits : base s ≤ t → t + tableBlocks l2 ≤ base s + blocks s → (c : Counter) (b : ℕ) → b < blocks s → gives c (linkTo t j) (base s + b) ≡ true → Suits c (h .types (base s + b))
         suits low high writable b l g = absurd (false≢true g)
@@ -86,7 +86,7 @@ module _ (p i t j : ℕ) {h : Told} {s : Store} (r : Running h s) (can : Linkabl
       enters r l1 p i 1 sl (linkTo t j) link-harmless (link-written can) (can .free) link-sound
 
 pub link-next : (p i t j : ℕ) {h : Told} {s : Store} → Running h s → Next h (links p i t j) (linkOutcome s p i t j)
-unfolding linkOutcome told
+unfolding linkOutcome afterAccepted
 link-next p i t j {h} {s} r =
     next-13 (links p i t j) (entered s p i 1 (linkTo t j)) (linkRefusals s p i t j) r (omega arith) (omega arith) (omega arith)
     (λ tests. linked-to p i t j r (linkable s p i t j tests))

@@ -5,19 +5,18 @@ use mathlib.Core.Bool.{Bool, true, false, not, _&&_, _||_, and-false, false≢tr
 use mathlib.Core.Path.{_≡_, refl, sym, _∙_}
 use Prim.Native.Nat.{ℕ, zero, suc, _+_, _%_, _^_, _<_, _≤_}
 use native.Mathlib.Omega.{arith}
-use lib.Dec.{leb, ltb}
-use borrow.Author.Tests.{lt-ltb, le-leb, ltb-false, not-false}
-use Rattle.words.specs.Bounded.{above, neqb}
-use Rattle.words.proofs.Bounded.{false-unless, or-false-left, or-false-right, and-false-right}
+use borrow.Author.Tests.{ltb-false, not-false}
+use Rattle.words.specs.Bounded.{above, neqb, among}
+use Rattle.words.proofs.Bounded.{false-unless, or-false-left, or-false-right, and-false-right, among-in}
 use Rattle.entries.specs.Entries.{Entry, isUnaccepted, isLink, rights, first, size}
-use Rattle.entries.specs.Written.{Grantable, none, read, readWrite, readExecute, Encodable, a-section, a-page}
-use Rattle.rules.specs.Store.{Store, blocks, base, recordWord, Counter, writable, executable, linked, counterPlace, counter, typeOf, outside, someBlock}
+use Rattle.entries.proofs.RoundTrip.{Grantable, none, read, readWrite, readExecute, Encodable, a-section, a-page}
+use Rattle.rules.specs.Store.{Store, blocks, base, recordWord, Counter, writable, executable, linked, counterWord, counter, typeOf, outside, someBlock}
 use Rattle.rules.specs.Signature.{certified}
-use Rattle.rules.specs.Tables.{typeD, code, Form, sections, pages, level, covered, alignment, words, mapping, allows, grants, gives, astray}
+use Rattle.rules.specs.Tables.{typeD, typeCode, Form, sections, pages, level, covered, words, mapping, allows, grants, gives, astray}
 use Rattle.rules.specs.Tables as tables
 use Rattle.rules.specs.General.{tableOutside, beyondTable, otherType, executableHolder, occupied, holder, added, someOverrun, entered}
 use Rattle.rules.specs.Map.{unlawfulRights, unfitTarget, clashingTarget, unsignedTarget, mapRefusals, mapOutcome}
-use Rattle.rules.specs.Steps.{maps, Told, told}
+use Rattle.rules.specs.Steps.{maps, Told, afterAccepted}
 use Rattle.rules.proofs.Refusals.{Passed, front, now, rest}
 use Rattle.rules.proofs.Gains.{gives-within}
 use Rattle.rules.proofs.Consistent.{Suits, Sound}
@@ -47,7 +46,7 @@ covered-above pages = omega arith
 
 -- the entry that is mapped
 module _ (t r : ℕ) where
-  mapping-encodable : (f : Form) → t < 2 ^ 20 → t % alignment f ≡ 0 → Grantable r → Encodable (level f) (mapping f t r)
+  mapping-encodable : (f : Form) → t < 2 ^ 20 → t % covered f ≡ 0 → Grantable r → Encodable (level f) (mapping f t r)
   mapping-encodable sections l a g = a-section (l, a) g
   mapping-encodable pages l a g = a-page l g
 
@@ -97,13 +96,13 @@ module _ (f : Form) (golden : List ℕ) (s : Store) (p i t q : ℕ) where
   fitting e =
       let out = outside (base s) (blocks s) t (covered f) in
       let written = writes && over notD in
-      let own = executes && leb t (holder p i) && ltb (holder p i) (t + covered f) in
+      let own = executes && among t (covered f) (holder p i) in
       let e′ = or-false-left (out || written) own e in
       record {
         in-region = or-false-left out written e′;
         data-only = and-false-right writes (over notD) (or-false-right out written e′);
         not-holder = λ y lo hi.
-            let is : own ≡ true = rw (y, le-leb t (holder p i) lo, lt-ltb (holder p i) (t + covered f) hi) refl in
+            let is : own ≡ true = rw (y, among-in t (covered f) (holder p i) lo hi) refl in
             false≢true (sym (or-false-right (out || written) own e) ∙ is);
       }
 
@@ -135,7 +134,7 @@ module _ (f : Form) (golden : List ℕ) (s : Store) (p i t q : ℕ) where
     pub region : Fit (base s) (blocks s) s
     pub table-inside : tableOutside (level f) s p ≡ false
     pub index-inside : beyondTable (level f) i ≡ false
-    pub typed : otherType (level f) s p (code (level f)) ≡ false
+    pub typed : otherType (level f) s p (typeCode (level f)) ≡ false
     pub unexecuted-holder : executableHolder s p i ≡ false
     pub free : occupied (level f) s p i (words f) ≡ false
     pub fits-target : Fitting
@@ -168,7 +167,7 @@ module _ (f : Form) (golden : List ℕ) (s : Store) (p i t q : ℕ) where
         fits-target = fit;
         apart = apart;
         signed = now (rest t11);
-        written = mapping-encodable t q f (omega (arith, covered-above f)) (equal (t % alignment f) 0 (now t3)) (grantable q (now t9) (apart .not-both));
+        written = mapping-encodable t q f (omega (arith, covered-above f)) (equal (t % covered f) 0 (now t3)) (grantable q (now t9) (apart .not-both));
       }
 
 -- Map
@@ -183,7 +182,7 @@ module _ (f : Form) (p i t q : ℕ) {h : Told} {s : Store} (r : Running h s) (ca
 
   -- a counter of a block of the target
   no-count : (c : Counter) (b : ℕ) → someBlock t (covered f) (λ a. above (counter c s a) 0) ≡ false → t ≤ base s + b → base s + b < t + covered f
-      → recordWord (s .ledger) (counterPlace c) b ≡ 0
+      → recordWord (s .ledger) (counterWord c) b ≡ 0
   no-count c b e lo hi = counter-none c s b (no-block-at t (covered f) (λ a. above (counter c s a) 0) e (base s + b) lo hi)
 
   map-sound : Sound (base s) (blocks s) (λ b. h .types (base s + b)) x
@@ -222,7 +221,7 @@ module _ (f : Form) (p i t q : ℕ) {h : Told} {s : Store} (r : Running h s) (ca
       enters r (level f) p i (words f) sl x map-harmless (can .written) (can .free) map-sound
 
 pub map-next : (f : Form) (p i t q : ℕ) {h : Told} {s : Store} → Running h s → Next h (maps f p i t q) (mapOutcome f (h .golden) s p i t q)
-unfolding mapOutcome told
+unfolding mapOutcome afterAccepted
 map-next f p i t q {h} {s} r =
     next-13 (maps f p i t q) (entered s p i (words f) (mapping f t q)) (mapRefusals f (h .golden) s p i t q) r (omega arith) (omega arith) (omega arith)
     (λ tests. mapped f p i t q r (mappable f (h .golden) s p i t q tests))

@@ -11,9 +11,9 @@ use Rattle.words.proofs.Bounded.{last-or-below, below-or-above}
 use Rattle.words.proofs.Lists.{getD-part, part-same}
 use Rattle.words.proofs.Words.{length-putWord, getD-putWord-other, word-cong, word-putWord-same, word-putWord-other}
 use Rattle.entries.specs.Entries.{Entry, Level, entryAt}
-use Rattle.entries.specs.Written.{wordOf, Encodable}
+use Rattle.entries.specs.Written.{wordOf}
 use Rattle.entries.proofs.Decoding.{entryAt-cong, entryAt-putWord-other}
-use Rattle.entries.proofs.RoundTrip.{written-reads-back}
+use Rattle.entries.proofs.RoundTrip.{written-reads-back, Encodable}
 use Rattle.rules.specs.Store.{blockBytes, blockWords, fill}
 use Rattle.rules.specs.Signature.{contents, certified}
 

@@ -13,12 +13,12 @@ use Rattle.words.specs.Bounded.{any, neqb}
 use Rattle.words.proofs.Bounded.{any-avoids, same}
 use Rattle.entries.specs.Entries.{Level, l1}
 use Rattle.rules.specs.Refusals.{Refusal, _if_, answerOf}
-use Rattle.rules.specs.Store.{blockBytes, least, most, baseAlignment, physicalBlocks, head, width, Store, blocks, base, active, typeOf, outside, someBlock, misfit, Outcome, settle}
-use Rattle.rules.specs.Tables.{code, tableBlocks, allows}
+use Rattle.rules.specs.Store.{blockBytes, leastBlocks, mostBlocks, baseAlignment, physicalBlocks, ledgerHeadBytes, ledgerRecordBytes, Store, blocks, base, active, typeOf, outside, someBlock, misfit, Outcome, settle}
+use Rattle.rules.specs.Tables.{typeCode, tableBlocks, allows}
 use Rattle.rules.specs.General.{otherType}
 use Rattle.rules.specs.Switch.{switchRefusals, switchAfter, switchOutcome}
 use Rattle.rules.specs.Guest.{ends, walk, Access, needed, walkRefusals, noActiveTable, activeWalk, guestRefusals, guestAfter, guestOutcome}
-use Rattle.rules.specs.Steps.{Step, switches, obey, Told, told, heard}
+use Rattle.rules.specs.Steps.{Step, switches, obey, Told, afterAccepted, afterAnswer}
 use Rattle.rules.specs.Policies.{Switchable, SwitchesToTables}
 use Rattle.rules.proofs.Refusals.{Passed, done, step, passed, accepted, accepted-unless}
 use Rattle.rules.proofs.State.{activeWord, Running, type-told, settle-accepted}
@@ -34,11 +34,11 @@ settle-answer (suc k) s after byte = refl
 pub record Taken (h : Told) (s : Store) (call : Step) (after : Store) : Type 0 where
   pub accepted : obey (h .golden) s call .answer ≡ 0
   pub leaves : obey (h .golden) s call .after ≡ after
-  pub runs : Running (told h call) (obey (h .golden) s call .after)
+  pub runs : Running (afterAccepted h call) (obey (h .golden) s call .after)
 
 took : {h : Told} {s : Store} → Running h s → (call : Step) (k : ℕ) (after : Store) → obey (h .golden) s call ≡ settle k s after 0 → obey (h .golden) s call .answer ≡ 0
     → Taken h s call after
-unfolding heard
+unfolding afterAnswer
 took {h} {s} r call k after is zero-is =
     record {
       accepted = zero-is;
@@ -72,9 +72,9 @@ module _ {h : Told} {s : Store} (r : Running h s) where
       let n = blocks s in
       rw (
         same (length (s .memory) % blockBytes) 0 (omega arith),
-        le-ltb n least (f .at-least),
-        le-ltb most n (f .at-most),
-        same (length (s .ledger)) (head + width * n) (f .ledger-length),
+        le-ltb n leastBlocks (f .at-least),
+        le-ltb mostBlocks n (f .at-most),
+        same (length (s .ledger)) (ledgerHeadBytes + ledgerRecordBytes * n) (f .ledger-length),
         same (base s % baseAlignment) 0 (f .aligned),
         le-ltb physicalBlocks (base s + n) (f .physical),
       ) refl
@@ -86,7 +86,7 @@ module _ {h : Told} {s : Store} (r : Running h s) where
       any-avoids (λ k. neqb (typeOf s (p + k)) t) (tableBlocks v) (λ k l. same (typeOf s (p + k)) t (type-told r (p + k) (omega arith) (omega arith) ∙ typed k l))
 
   pub switch-accepted : SwitchesToTables h s
-  unfolding switchOutcome told
+  unfolding switchOutcome afterAccepted
   switch-accepted p = (to-table, from-table) where
     to-table : switchOutcome s p .answer ≡ 0 → Switchable h s p
     to-table e =
@@ -100,7 +100,7 @@ module _ {h : Told} {s : Store} (r : Running h s) where
         let low : base s ≤ p = rw (r .told-base) at (table .low) in
         let high : p + tableBlocks l1 ≤ base s + blocks s = rw (r .told-base) at (table .high) in
         settle-answer (answerOf (switchRefusals s p)) s (switchAfter s p) 0
-        ∙ accepted (step no-misfit (step (inside (base s) (blocks s) p (tableBlocks l1) low high) (step (same (p % tableBlocks l1) 0 (table .aligned)) (step (right-type l1 p (code l1) low high (table .typed)) done))))
+        ∙ accepted (step no-misfit (step (inside (base s) (blocks s) p (tableBlocks l1) low high) (step (same (p % tableBlocks l1) 0 (table .aligned)) (step (right-type l1 p (typeCode l1) low high (table .typed)) done))))
 
   pub switch-taken : (p : ℕ) → Switchable h s p → Taken h s (switches p) (switchAfter s p)
   unfolding obey switchOutcome

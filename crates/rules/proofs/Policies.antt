@@ -64,4 +64,4 @@ module _ (golden : List ℕ) {B : ℕ} {s : Store} (r : Running (begun B golden)
 
 -- every list that starts from what an accepted begin leaves
 pub policies : Policies-hold
-policies golden lent B accepted steps = upheld golden (begin-accepted lent B golden accepted) steps
+policies golden start B accepted steps = upheld golden (begin-accepted start B golden accepted) steps

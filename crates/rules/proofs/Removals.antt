@@ -12,7 +12,7 @@ use Rattle.words.proofs.Bounded.{any-avoids}
 use Rattle.entries.specs.Entries.{Entry, Level, isUnaccepted}
 use Rattle.rules.specs.Refusals.{Refusal, answerOf}
 use Rattle.rules.specs.Store.{blockWords, Store, blocks, base}
-use Rattle.rules.specs.Tables.{code, tableBlocks, entries, Form, level, words, wordIndex, tableEntry, astray}
+use Rattle.rules.specs.Tables.{typeCode, tableBlocks, entries, Form, level, words, wordIndex, tableEntry, astray}
 use Rattle.rules.specs.General.{tableOutside, beyondTable, otherType}
 use Rattle.rules.specs.Free.{freeRefusals}
 use Rattle.rules.specs.Unmap.{unmapRefusals}
@@ -29,11 +29,11 @@ module _ {h : Told} {s : Store} (r : Running h s) where
   Good = Sound (base s) (blocks s) (typeAt (base s) h)
 
   -- the table at block p, against which 2 and 5 hold nothing
-  module _ (v : Level) (p : ℕ) (t2 : tableOutside v s p ≡ false) (t5 : otherType v s p (code v) ≡ false) where
+  module _ (v : Level) (p : ℕ) (t2 : tableOutside v s p ≡ false) (t5 : otherType v s p (typeCode v) ≡ false) where
     table-sound : (i : ℕ) → i < entries v → Good (tableEntry v s p i)
     table-sound i l =
         let (low, high) = within (base s) (blocks s) p (tableBlocks v) t2 in
-        let is = entryOf-table (base s) h (s .memory) (wordIndex s p i) (p + i / blockWords) (word-block (base s) p i low) v (types-told r v p (code v) t2 t5 (i / blockWords) (omega arith)) in
+        let is = entryOf-table (base s) h (s .memory) (wordIndex s p i) (p + i / blockWords) (word-block (base s) p i low) v (types-told r v p (typeCode v) t2 t5 (i / blockWords) (omega arith)) in
         rw is at (r .consistent .sound (wordIndex s p i) (omega arith))
 
     -- what no sound entry has, none of its entries has

@@ -13,9 +13,9 @@ use Rattle.entries.proofs.Decoding.{entryAt-putWord-other}
 use Rattle.words.proofs.Words.{length-putWord, word-putWord-same}
 use Rattle.signature.specs.Signed.{signed, listed}
 use Rattle.entries.specs.Entries.{fault, Level, l1, l2, entryAt, l1Entry, l2Entry}
-use Rattle.rules.specs.Store.{blockBytes, head, width, Store, recordWord, putRecordWord, retype, typePlace, counterPlace, writable, misfit}
+use Rattle.rules.specs.Store.{blockBytes, ledgerHeadBytes, ledgerRecordBytes, Store, recordWord, putRecordWord, retype, typeWord, counterWord, writable, misfit}
 use Rattle.rules.specs.Signature.{certified}
-use Rattle.rules.specs.Tables.{code}
+use Rattle.rules.specs.Tables.{typeCode}
 
 pub zeros : ℕ → List ℕ
 zeros n = replicate n 0
@@ -39,28 +39,28 @@ first-entry w h = let e = word-putWord-same (zeros (blockBytes * 8)) 0 w (rw (le
 
 -- a ledger of zeros: B and active are 0, all blocks are D
 abbrev pub ledger : List ℕ
-ledger = replicate (head + width * 8) 0
+ledger = replicate (ledgerHeadBytes + ledgerRecordBytes * 8) 0
 
-abbrev pub lent : ℕ → List ℕ → Store
-lent w led = record { memory = memory w; ledger = led }
+abbrev pub smallStore : ℕ → List ℕ → Store
+smallStore w led = record { memory = memory w; ledger = led }
 
-pub fit : (w : ℕ) (led : List ℕ) → length led ≡ head + width * 8 → misfit (lent w led) 0 ≡ false
+pub fit : (w : ℕ) (led : List ℕ) → length led ≡ ledgerHeadBytes + ledgerRecordBytes * 8 → misfit (smallStore w led) 0 ≡ false
 unfolding misfit
 fit w led e = rw (length-memory w, e) refl
 
-pub unfit : (w : ℕ) (led : List ℕ) → length led ≡ head + width * 8 → misfit (lent w led) 1 ≡ true
+pub unfit : (w : ℕ) (led : List ℕ) → length led ≡ ledgerHeadBytes + ledgerRecordBytes * 8 → misfit (smallStore w led) 1 ≡ true
 unfolding misfit
 unfit w led e = rw (length-memory w, e) refl
 
 -- block 0 is an L2 block; blocks 0 to 3 are an L1 table
 abbrev pub oneL2 : List ℕ
-oneL2 = putRecordWord ledger typePlace 0 (code l2)
+oneL2 = putRecordWord ledger typeWord 0 (typeCode l2)
 
 abbrev pub oneL1 : List ℕ
-oneL1 = retype ledger 0 4 (code l1)
+oneL1 = retype ledger 0 4 (typeCode l1)
 
 abbrev pub writesTo5 : ℕ → List ℕ
-writesTo5 count = putRecordWord oneL2 (counterPlace writable) 5 count
+writesTo5 count = putRecordWord oneL2 (counterWord writable) 5 count
 
 pub word-zeros : (n a : ℕ) → word (zeros n) a ≡ 0
 unfolding word zeros
@@ -78,7 +78,7 @@ rest-entry v w i h = entryAt-putWord-other v (zeros (blockBytes * 8)) 0 i w (λ 
 
 pub record-zeros : (k b : ℕ) → recordWord ledger k b ≡ 0
 unfolding zeros recordWord
-record-zeros k b = word-zeros (head + width * 8) (head + width * b + 4 * k)
+record-zeros k b = word-zeros (ledgerHeadBytes + ledgerRecordBytes * 8) (ledgerHeadBytes + ledgerRecordBytes * b + 4 * k)
 
 -- nothing is signed by an empty golden image
 pub unsigned : (mem : List ℕ) (B p : ℕ) → certified [] B mem p ≡ false

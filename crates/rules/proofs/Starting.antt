@@ -8,12 +8,12 @@ use lib.ListN.{length}
 use Rattle.words.specs.Words.{putWord}
 use Rattle.words.proofs.Words.{length-putWord, word-putWord-same, word-putWord-other}
 use Rattle.entries.specs.Entries.{fault, l1}
-use Rattle.rules.specs.Store.{blockWords, basePlace, activePlace, noTable, Store, blocks, base, recordWord, typePlace, Counter, executable, counterPlace, retype}
+use Rattle.rules.specs.Store.{blockWords, basePlace, activePlace, noTable, Store, blocks, base, recordWord, typeWord, Counter, executable, counterWord, retype}
 use Rattle.rules.specs.Refusals.{answerOf}
-use Rattle.rules.specs.Tables.{typeD, code, tableBlocks, typedEntry}
+use Rattle.rules.specs.Tables.{typeD, typeCode, tableBlocks, typedEntry}
 use Rattle.rules.specs.Begin.{cleared, beginRefusals, beginAfter, beginOutcome}
 use Rattle.rules.specs.Switch.{switchRefusals, switchAfter, switchOutcome}
-use Rattle.rules.specs.Steps.{begins, switches, Told, begun, told}
+use Rattle.rules.specs.Steps.{begins, switches, Told, begun, afterAccepted}
 use Rattle.rules.proofs.Refusals.{Passed, now, rest, passed, avoided}
 use Rattle.rules.proofs.Gains.{gives-fault, gain-none}
 use Rattle.rules.proofs.Consistent.{sound-fault, still}
@@ -38,14 +38,14 @@ module _ (s : Store) (B : ℕ) (golden : List ℕ) where
   record-begun k b = recordWord-put-head _ activePlace _ k b (omega arith) ∙ recordWord-put-head (cleared s) basePlace B k b (omega arith)
 
   module _ (fit : Fit B n s) where
-    type-begun : (b : ℕ) → b < n → recordWord (beginAfter s B .ledger) typePlace b ≡ typeD
+    type-begun : (b : ℕ) → b < n → recordWord (beginAfter s B .ledger) typeWord b ≡ typeD
     type-begun b l =
-        record-begun typePlace b ∙ type-recount untyped n (λ c b. 0) b
+        record-begun typeWord b ∙ type-recount untyped n (λ c b. 0) b
         ∙ type-retype-in (s .ledger) 0 n typeD n b (fit .ledger-length) (omega arith) (omega arith) (omega arith) (omega arith)
 
-    counter-begun : (c : Counter) (b : ℕ) → b < n → recordWord (beginAfter s B .ledger) (counterPlace c) b ≡ 0
+    counter-begun : (c : Counter) (b : ℕ) → b < n → recordWord (beginAfter s B .ledger) (counterWord c) b ≡ 0
     counter-begun c b l =
-        record-begun (counterPlace c) b
+        record-begun (counterWord c) b
         ∙ counter-recount untyped n n (λ c b. 0) (length-retype (s .ledger) 0 n typeD ∙ fit .ledger-length) (omega arith) c b l (omega arith)
 
   pub begin-runs : Passed (beginRefusals s B) → Running (begun B golden) (beginAfter s B)
@@ -77,8 +77,8 @@ module _ (s : Store) (B : ℕ) (golden : List ℕ) where
       rw after-is (begin-runs (passed rs (omega arith) zero-is))
 
 module _ {h : Told} {s : Store} (r : Running h s) (p : ℕ) where
-  pub switch-runs : Passed (switchRefusals s p) → Running (told h (switches p)) (switchAfter s p)
-  unfolding told
+  pub switch-runs : Passed (switchRefusals s p) → Running (afterAccepted h (switches p)) (switchAfter s p)
+  unfolding afterAccepted
   switch-runs t1 =
       let t2 = rest t1 in
       let t3 = rest t2 in
@@ -86,15 +86,15 @@ module _ {h : Told} {s : Store} (r : Running h s) (p : ℕ) where
       let (low, high) = within (base s) (blocks s) p (tableBlocks l1) (now t2) in
       let f = r .fit in
       let table : Root (base s) (blocks s) (h .types) p =
-      record { low = low; high = high; aligned = equal (p % tableBlocks l1) 0 (now t3); typed = types-told r l1 p (code l1) (now t2) (now t4) } in
+      record { low = low; high = high; aligned = equal (p % tableBlocks l1) 0 (now t3); typed = types-told r l1 p (typeCode l1) (now t2) (now t4) } in
       running (record {
         told-base = r .told-base;
         fit = fit-same (switchAfter s p) f refl (length-putWord (s .ledger) activePlace p);
         base-is = word-putWord-other (s .ledger) activePlace p basePlace (λ _. omega arith);
         active-is = word-putWord-same (s .ledger) activePlace p (omega arith) (omega arith);
-        types-are = λ b l. recordWord-put-head (s .ledger) activePlace p typePlace b (omega arith) ∙ r .types-are b l;
+        types-are = λ b l. recordWord-put-head (s .ledger) activePlace p typeWord b (omega arith) ∙ r .types-are b l;
         root = λ q e. let same : p ≡ q = cc in rw same at table;
-        consistent = still (r .consistent) (λ j l. refl) (λ b l x. refl) (λ c b l. recordWord-put-head (s .ledger) activePlace p (counterPlace c) b (omega arith));
+        consistent = still (r .consistent) (λ j l. refl) (λ b l x. refl) (λ c b l. recordWord-put-head (s .ledger) activePlace p (counterWord c) b (omega arith));
       })
 
   pub switch-next : Next h (switches p) (switchOutcome s p)
@@ -105,7 +105,7 @@ module _ {h : Told} {s : Store} (r : Running h s) (p : ℕ) where
       (λ e. switch-runs (passed rs (omega arith) e))
 
 pub begin-next : {h : Told} {s : Store} → Running h s → (B : ℕ) → Next h (begins B) (beginOutcome s B)
-unfolding beginOutcome told
+unfolding beginOutcome afterAccepted
 begin-next {h} {s} r B =
     let rs = beginRefusals s B in
     next (begins B) (beginAfter s B) (answerOf rs) 0 r (avoided 13 rs (λ e. omega arith) (omega arith)) (avoided 24 rs (λ e. omega arith) (omega arith))

@@ -12,12 +12,12 @@ use lib.Dec.{eqb}
 use Rattle.words.specs.Bounded.{above, neqb}
 use Rattle.words.proofs.Bounded.{or-false-left, or-false-right, or-cases, any-none, any-hit, any-found}
 use Rattle.entries.specs.Entries.{Entry, Level}
-use Rattle.rules.specs.Store.{blockBytes, blockWords, least, most, baseAlignment, physicalBlocks, head, width, noTable, Store, blocks, base, active, recordWord, typePlace, Counter, writable, executable, linked, counterPlace, someCounter, typeOf, outside, someBlock, misfit, Outcome, settle}
+use Rattle.rules.specs.Store.{blockBytes, blockWords, leastBlocks, mostBlocks, baseAlignment, physicalBlocks, ledgerHeadBytes, ledgerRecordBytes, noTable, Store, blocks, base, active, recordWord, typeWord, Counter, writable, executable, linked, counterWord, someCounter, typeOf, outside, someBlock, misfit, Outcome, settle}
 use Rattle.rules.specs.Refusals.{Refusal, answerOf}
 use Rattle.rules.specs.Signature.{certified}
 use Rattle.rules.specs.Tables.{tableBlocks, typedEntry}
 use Rattle.rules.specs.General.{tableOutside, otherType}
-use Rattle.rules.specs.Steps.{Step, Told, told, heard, afresh}
+use Rattle.rules.specs.Steps.{Step, Told, afterAccepted, afterAnswer, afresh}
 use Rattle.rules.specs.Demand3.{Safe}
 pub use Rattle.rules.specs.Policies.{Root}
 use Rattle.rules.proofs.Refusals.{Passed, Avoids, front, lastTest, passed, passed-front, avoided, last-avoided}
@@ -26,9 +26,9 @@ use Rattle.rules.proofs.Consistent.{Consistent}
 -- refusal 1 does not apply: n blocks from B on
 pub record Fit (B n : ℕ) (s : Store) : Type 0 where
   pub memory-length : length (s .memory) ≡ blockBytes * n
-  pub ledger-length : length (s .ledger) ≡ head + width * n
-  pub at-least : least ≤ n
-  pub at-most : n ≤ most
+  pub ledger-length : length (s .ledger) ≡ ledgerHeadBytes + ledgerRecordBytes * n
+  pub at-least : leastBlocks ≤ n
+  pub at-most : n ≤ mostBlocks
   pub aligned : B % baseAlignment ≡ 0
   pub physical : B + n ≤ physicalBlocks
 
@@ -39,9 +39,9 @@ pub fits : (s : Store) (B : ℕ) → misfit s B ≡ false → Fit B (blocks s) s
 unfolding misfit
 fits s B e =
     let t1 = neqb (length (s .memory) % blockBytes) 0 in
-    let t2 = above least (blocks s) in
-    let t3 = above (blocks s) most in
-    let t4 = neqb (length (s .ledger)) (head + width * blocks s) in
+    let t2 = above leastBlocks (blocks s) in
+    let t3 = above (blocks s) mostBlocks in
+    let t4 = neqb (length (s .ledger)) (ledgerHeadBytes + ledgerRecordBytes * blocks s) in
     let t5 = neqb (B % baseAlignment) 0 in
     let t6 = above (B + blocks s) physicalBlocks in
     let e5 = or-false-left (t1 || t2 || t3 || t4 || t5) t6 e in
@@ -51,9 +51,9 @@ fits s B e =
     let whole = equal (length (s .memory) % blockBytes) 0 (or-false-left t1 t2 e2) in
     record {
       memory-length = omega arith;
-      ledger-length = equal (length (s .ledger)) (head + width * blocks s) (or-false-right (t1 || t2 || t3) t4 e4);
-      at-least = ltb-false (blocks s) least (or-false-right t1 t2 e2);
-      at-most = ltb-false most (blocks s) (or-false-right (t1 || t2) t3 e3);
+      ledger-length = equal (length (s .ledger)) (ledgerHeadBytes + ledgerRecordBytes * blocks s) (or-false-right (t1 || t2 || t3) t4 e4);
+      at-least = ltb-false (blocks s) leastBlocks (or-false-right t1 t2 e2);
+      at-most = ltb-false mostBlocks (blocks s) (or-false-right (t1 || t2) t3 e3);
       aligned = equal (B % baseAlignment) 0 (or-false-right (t1 || t2 || t3 || t4) t5 e5);
       physical = ltb-false physicalBlocks (B + blocks s) (or-false-right (t1 || t2 || t3 || t4 || t5) t6 e);
     }
@@ -79,14 +79,14 @@ abbrev pub sealed : ℕ → Told → List ℕ → ℕ → Bool
 sealed B h memory b = certified (h .golden) B memory (B + b)
 
 abbrev pub recorded : Store → Counter → ℕ → ℕ
-recorded s c b = recordWord (s .ledger) (counterPlace c) b
+recorded s c b = recordWord (s .ledger) (counterWord c) b
 
 pub record Inv (B n : ℕ) (h : Told) (s : Store) : Type 0 where
   pub told-base : h .B ≡ B
   pub fit : Fit B n s
   pub base-is : base s ≡ B
   pub active-is : active s ≡ activeWord (h .table)
-  pub types-are : (b : ℕ) → b < n → recordWord (s .ledger) typePlace b ≡ typeAt B h b
+  pub types-are : (b : ℕ) → b < n → recordWord (s .ledger) typeWord b ≡ typeAt B h b
   pub root : (p : ℕ) → h .table ≡ some p → Root B n (h .types) p
   pub consistent : Consistent B n (typeAt B h) (entryOf B h (s .memory)) (sealed B h (s .memory)) (recorded s)
 
@@ -175,18 +175,18 @@ module _ {h : Told} {s : Store} (r : Running h s) where
 pub record Next (h : Told) (step : Step) (o : Outcome) : Type 0 where
   pub not-13 : o .answer ≢ 13
   pub not-24 : o .answer ≢ 24
-  pub runs : Running (heard (o .answer) h step) (o .after)
+  pub runs : Running (afterAnswer (o .answer) h step) (o .after)
 
 -- an accepted call leaves and tells what it says, a refused one nothing
-pub next : {h : Told} {s : Store} (step : Step) (after : Store) (k byte : ℕ) → Running h s → k ≢ 13 → k ≢ 24 → (k ≡ 0 → Running (told h step) after)
+pub next : {h : Told} {s : Store} (step : Step) (after : Store) (k byte : ℕ) → Running h s → k ≢ 13 → k ≢ 24 → (k ≡ 0 → Running (afterAccepted h step) after)
     → Next h step (settle k s after byte)
-unfolding heard settle
+unfolding afterAnswer settle
 next step after zero byte r n13 n24 new = record { not-13 = n13; not-24 = n24; runs = new refl }
 next step after (suc k) byte r n13 n24 new = record { not-13 = n13; not-24 = n24; runs = r }
 
 -- the same for a call whose last refusal is 13, which does not arise where the others do not
 pub next-13 : {h : Told} {s : Store} (step : Step) (after : Store) (rs : List Refusal) → Running h s → Avoids 0 rs → Avoids 13 (front rs) → Avoids 24 rs
-    → (Passed (front rs) → (lastTest rs ≡ false) × Running (told h step) after) → Next h step (settle (answerOf rs) s after 0)
+    → (Passed (front rs) → (lastTest rs ≡ false) × Running (afterAccepted h step) after) → Next h step (settle (answerOf rs) s after 0)
 next-13 step after rs r n0 n13 n24 new =
     next step after (answerOf rs) 0 r (last-avoided 13 rs (λ e. omega arith) n13 (λ t. new t .0)) (avoided 24 rs (λ e. omega arith) n24)
     (λ e. new (passed-front rs (passed rs n0 e)) .1)

@@ -13,9 +13,9 @@ use Rattle.words.proofs.Bounded.{below-or-above, any-none, any-hit, any-avoids}
 use Rattle.entries.specs.Entries.{Entry, fault, page, l1, l2, entryAt, l2Entry, isPageForm, isUnaccepted, isLink, rights, first, size, covers}
 use Rattle.entries.specs.Rights.{mayRead, mayWrite, mayExecute, rightsOf}
 use Rattle.rules.specs.Refusals.{answerOf}
-use Rattle.rules.specs.Store.{head, width, limit, basePlace, blocks, base, recordWord, putRecordWord, retype, typePlace, Counter, typeOf, counter, counterPlace, writable, executable, linked, someCounter, outside, someBlock}
+use Rattle.rules.specs.Store.{ledgerHeadBytes, ledgerRecordBytes, counterLimit, basePlace, blocks, base, recordWord, putRecordWord, retype, typeWord, Counter, typeOf, counter, counterWord, writable, executable, linked, someCounter, outside, someBlock}
 use Rattle.rules.specs.Signature.{misfitImage}
-use Rattle.rules.specs.Tables.{write, typeD, entries, tableEntry, code, allows, grants, gives, gain, astray}
+use Rattle.rules.specs.Tables.{write, typeD, entries, tableEntry, typeCode, allows, grants, gives, gain, astray}
 use Rattle.rules.specs.General.{endValue, endsBelow, overruns, someOverrun}
 use Rattle.rules.specs.Create.{someCount, unfitLink, unfitWrite, misplaced, clash, clashes, unsigned as unsignedBy, createRefusals}
 use Rattle.rules.specs.Free.{inUse, freeRefusals}
@@ -23,12 +23,12 @@ use borrow.Author.Tests.{lt-ltb}
 use Rattle.rules.proofs.Refusals.{Decides, here, past, decides}
 use Rattle.rules.proofs.Ledger.{recordWord-put-other}
 use Rattle.rules.proofs.Gains.{gives-fault, gain-hit, gain-none, gain-most}
-use Rattle.rules.proofs.SmallStores.{memory, length-memory, first-entry, ledger, lent, fit, unfit, oneL2, oneL1, writesTo5, rest-entry, record-zeros, unsigned}
+use Rattle.rules.proofs.SmallStores.{memory, length-memory, first-entry, ledger, smallStore, fit, unfit, oneL2, oneL1, writesTo5, rest-entry, record-zeros, unsigned}
 
 -- a store whose block 0, as a table, has the entry w and faults
 module _ (w : ℕ) (led : List ℕ) (based : word led basePlace ≡ 0) where
   abbrev entry : ℕ → Entry
-  entry i = tableEntry l2 (lent w led) 0 i
+  entry i = tableEntry l2 (smallStore w led) 0 i
 
   entry-at : (i : ℕ) → entry i ≡ entryAt l2 (memory w) i
   entry-at i = rw based (ap (entryAt l2 (memory w)) (zero-add i))
@@ -67,84 +67,84 @@ no-fifth : (q : ℕ → Bool) → ((b : ℕ) → q b ≡ false) → someBlock 0 
 unfolding someBlock
 no-fifth q e = any-avoids (λ k. q (0 + k)) 8 (λ k l. e (0 + k))
 
-create-1 : (answerOf (createRefusals l2 [] (lent 0 (putWord ledger basePlace 1)) 0) ≡ 1) × (answerOf (createRefusals l2 (0 ∷ []) (lent 0 ledger) 0) ≡ 1)
+create-1 : (answerOf (createRefusals l2 [] (smallStore 0 (putWord ledger basePlace 1)) 0) ≡ 1) × (answerOf (createRefusals l2 (0 ∷ []) (smallStore 0 ledger) 0) ≡ 1)
 unfolding word putWord misfitImage
 create-1 = (decides (here (unfit 0 (putWord ledger basePlace 1) refl)), decides (past (fit 0 ledger refl) (here refl)))
 
-create-2 : answerOf (createRefusals l2 [] (lent 0 ledger) 8) ≡ 2
+create-2 : answerOf (createRefusals l2 [] (smallStore 0 ledger) 8) ≡ 2
 unfolding outside word misfitImage
 create-2 = decides (past (fit 0 ledger refl) (past refl (here (rw (length-memory 0) refl))))
 
-create-3 : answerOf (createRefusals l1 [] (lent 0 ledger) 1) ≡ 3
+create-3 : answerOf (createRefusals l1 [] (smallStore 0 ledger) 1) ≡ 3
 unfolding outside word misfitImage
 create-3 = decides (past (fit 0 ledger refl) (past refl (past (rw (length-memory 0) refl) (here refl))))
 
-create-5 : answerOf (createRefusals l2 [] (lent 0 oneL2) 0) ≡ 5
+create-5 : answerOf (createRefusals l2 [] (smallStore 0 oneL2) 0) ≡ 5
 unfolding outside word misfitImage recordWord putRecordWord putWord
 create-5 = decides (past (fit 0 oneL2 refl) (past refl (past (rw (length-memory 0) refl) (past refl (here (rw one-block refl))))))
 
 -- up to 5 nothing is held against block 0 of a ledger in which it is D
-create-from-6 : {k : ℕ} (w : ℕ) (led : List ℕ) → length led ≡ head + width * 8 → word led basePlace ≡ 0 → recordWord led typePlace 0 ≡ 0
-    → Decides (drop 5 (createRefusals l2 [] (lent w led) 0)) k → answerOf (createRefusals l2 [] (lent w led) 0) ≡ k
+create-from-6 : {k : ℕ} (w : ℕ) (led : List ℕ) → length led ≡ ledgerHeadBytes + ledgerRecordBytes * 8 → word led basePlace ≡ 0 → recordWord led typeWord 0 ≡ 0
+    → Decides (drop 5 (createRefusals l2 [] (smallStore w led) 0)) k → answerOf (createRefusals l2 [] (smallStore w led) 0) ≡ k
 unfolding outside misfitImage
 create-from-6 w led l based type d =
-    decides (past (rw based (fit w led l)) (past refl (past (rw (based, length-memory w) refl) (past refl (past (one-block 0 (λ b. neqb (typeOf (lent w led) b) typeD) ∙ rw (based, type) refl) d)))))
+    decides (past (rw based (fit w led l)) (past refl (past (rw (based, length-memory w) refl) (past refl (past (one-block 0 (λ b. neqb (typeOf (smallStore w led) b) typeD) ∙ rw (based, type) refl) d)))))
 
-create-6 : answerOf (createRefusals l2 [] (lent 0 (putRecordWord ledger (counterPlace writable) 0 1)) 0) ≡ 6
+create-6 : answerOf (createRefusals l2 [] (smallStore 0 (putRecordWord ledger (counterWord writable) 0 1)) 0) ≡ 6
 unfolding word recordWord putRecordWord putWord someCount someCounter
-create-6 = create-from-6 0 (putRecordWord ledger (counterPlace writable) 0 1) refl refl refl (here (rw one-block refl))
+create-6 = create-from-6 0 (putRecordWord ledger (counterWord writable) 0 1) refl refl refl (here (rw one-block refl))
 
 -- no counts of block 0
 abbrev Uncounted : List ℕ → Type 0
-Uncounted led = (recordWord led (counterPlace writable) 0 ≡ 0) × (recordWord led (counterPlace executable) 0 ≡ 0) × (recordWord led (counterPlace linked) 0 ≡ 0)
+Uncounted led = (recordWord led (counterWord writable) 0 ≡ 0) × (recordWord led (counterWord executable) 0 ≡ 0) × (recordWord led (counterWord linked) 0 ≡ 0)
 
 -- and nothing up to 6 if it has no counts
-create-from-8 : {k : ℕ} (w : ℕ) (led : List ℕ) → length led ≡ head + width * 8 → word led basePlace ≡ 0 → recordWord led typePlace 0 ≡ 0 → Uncounted led
-    → Decides (drop 6 (createRefusals l2 [] (lent w led) 0)) k → answerOf (createRefusals l2 [] (lent w led) 0) ≡ k
+create-from-8 : {k : ℕ} (w : ℕ) (led : List ℕ) → length led ≡ ledgerHeadBytes + ledgerRecordBytes * 8 → word led basePlace ≡ 0 → recordWord led typeWord 0 ≡ 0 → Uncounted led
+    → Decides (drop 6 (createRefusals l2 [] (smallStore w led) 0)) k → answerOf (createRefusals l2 [] (smallStore w led) 0) ≡ k
 unfolding someCount someCounter
 create-from-8 w led l based type c d =
-    create-from-6 w led l based type (past (one-block 0 (λ b. someCounter (λ c. above (counter c (lent w led) b) 0)) ∙ rw (based, c .0, c .1, c .2) refl) d)
+    create-from-6 w led l based type (past (one-block 0 (λ b. someCounter (λ c. above (counter c (smallStore w led) b) 0)) ∙ rw (based, c .0, c .1, c .2) refl) d)
 
-create-8 : answerOf (createRefusals l2 [] (lent 1 ledger) 0) ≡ 8
+create-8 : answerOf (createRefusals l2 [] (smallStore 1 ledger) 0) ≡ 8
 unfolding word recordWord l2Entry isPageForm isUnaccepted
 create-8 = create-from-8 1 ledger refl refl refl (refl, refl, refl) (here (some-entry 1 ledger refl isUnaccepted (ap isUnaccepted (first-entry 1 (omega arith) .1))))
 
-create-10 : answerOf (createRefusals l2 [] (lent 0x6403F ledger) 0) ≡ 10
+create-10 : answerOf (createRefusals l2 [] (smallStore 0x6403F ledger) 0) ≡ 10
 unfolding word recordWord l2Entry isPageForm isUnaccepted misplaced unfitLink unfitWrite astray outside first size
 create-10 =
     let w : ℕ = 0x6403F in
     let e = first-entry w (omega arith) .1 in
     create-from-8 w ledger refl refl refl (refl, refl, refl)
     (past (no-entry w ledger refl isUnaccepted (ap isUnaccepted e) refl)
-    (here (some-entry w ledger refl (misplaced l2 (lent w ledger) 0) (rw (e, length-memory w) refl))))
+    (here (some-entry w ledger refl (misplaced l2 (smallStore w ledger) 0) (rw (e, length-memory w) refl))))
 
 -- up to 10 nothing is held against a page in block 5
-create-from-11 : {k : ℕ} (w r : ℕ) → w < 2 ^ 32 → l2Entry w ≡ page 5 r → (led : List ℕ) → length led ≡ head + width * 8 → word led basePlace ≡ 0 → recordWord led typePlace 0 ≡ 0
-    → recordWord led typePlace 5 ≡ 0 → Uncounted led → Decides (drop 8 (createRefusals l2 [] (lent w led) 0)) k → answerOf (createRefusals l2 [] (lent w led) 0) ≡ k
+create-from-11 : {k : ℕ} (w r : ℕ) → w < 2 ^ 32 → l2Entry w ≡ page 5 r → (led : List ℕ) → length led ≡ ledgerHeadBytes + ledgerRecordBytes * 8 → word led basePlace ≡ 0 → recordWord led typeWord 0 ≡ 0
+    → recordWord led typeWord 5 ≡ 0 → Uncounted led → Decides (drop 8 (createRefusals l2 [] (smallStore w led) 0)) k → answerOf (createRefusals l2 [] (smallStore w led) 0) ≡ k
 unfolding isUnaccepted misplaced unfitLink unfitWrite astray outside first size isLink grants allows rights
 create-from-11 w r h is led l based type free c d =
     let e = first-entry w h .1 ∙ is in
     create-from-8 w led l based type c
     (past (no-entry w led based isUnaccepted (ap isUnaccepted e) refl)
-    (past (no-entry w led based (misplaced l2 (lent w led) 0) (rw (e, based, length-memory w, one-block, free) (and-false (allows r write))) refl) d))
+    (past (no-entry w led based (misplaced l2 (smallStore w led) 0) (rw (e, based, length-memory w, one-block, free) (and-false (allows r write))) refl) d))
 
 -- the page 503F (hexadecimal) makes block 5 writable, the page 502E makes it executable
 abbrev entries5 : ℕ → List ℕ → ℕ → Entry
-entries5 w led = tableEntry l2 (lent w led) 0
+entries5 w led = tableEntry l2 (smallStore w led) 0
 
 -- block 5 is executable already
-create-11 : answerOf (createRefusals l2 [] (lent 0x503F (putRecordWord ledger (counterPlace executable) 5 1)) 0) ≡ 11
+create-11 : answerOf (createRefusals l2 [] (smallStore 0x503F (putRecordWord ledger (counterWord executable) 5 1)) 0) ≡ 11
 unfolding word putWord recordWord putRecordWord l2Entry isPageForm rightsOf mayRead mayWrite mayExecute num clash gives grants allows rights covers first size
 create-11 =
     let w : ℕ = 0x503F in
-    let led = putRecordWord ledger (counterPlace executable) 5 1 in
+    let led = putRecordWord ledger (counterWord executable) 5 1 in
     let e = first-entry w (omega arith) .1 in
     let more = gives-some w led refl writable 5 (ap (λ (x : Entry). gives writable x 5) e) in
     let W = gain (entries l2) (entries5 w led) writable 5 in
     let X = gain (entries l2) (entries5 w led) executable 5 in
     let is : clash 0 1 W X ≡ true = rw (lt-ltb 0 W more, lt-ltb 0 (0 + W) (omega arith), lt-ltb 0 (1 + X) (omega arith)) refl in
     create-from-11 w 3 (omega arith) refl led refl refl refl refl (refl, refl, refl)
-    (here (rw (length-memory w) (fifth (clashes (lent w led) (entries l2) (entries5 w led)) is)))
+    (here (rw (length-memory w) (fifth (clashes (smallStore w led) (entries l2) (entries5 w led)) is)))
 
 -- no block clashes where nothing is writable, or nothing executable, afterwards
 no-clash : (w x moreW moreX : ℕ) → (w + moreW ≡ 0) ⊎ (x + moreX ≡ 0) → clash w x moreW moreX ≡ false
@@ -152,7 +152,7 @@ unfolding clash
 no-clash w x moreW moreX (inl e) = rw (e, and-false (above moreW 0 || above moreX 0)) refl
 no-clash w x moreW moreX (inr e) = rw e (and-false ((above moreW 0 || above moreX 0) && above (w + moreW) 0))
 
-create-12 : answerOf (createRefusals l2 [] (lent 0x502E ledger) 0) ≡ 12
+create-12 : answerOf (createRefusals l2 [] (smallStore 0x502E ledger) 0) ≡ 12
 unfolding word recordWord l2Entry isPageForm rightsOf mayRead mayWrite mayExecute num gives grants allows rights covers first size
 create-12 =
     let w : ℕ = 0x502E in
@@ -161,65 +161,65 @@ create-12 =
     let none : (b : ℕ) → gain (entries l2) (entries5 w ledger) writable b ≡ 0 = λ b. gives-none w ledger refl writable b (ap (λ (x : Entry). gives writable x b) e) in
     let X = gain (entries l2) (entries5 w ledger) executable 5 in
     create-from-11 w 5 (omega arith) refl ledger refl refl refl refl (refl, refl, refl)
-    (past (rw (length-memory w) (no-fifth (clashes (lent w ledger) (entries l2) (entries5 w ledger)) (λ b. no-clash _ _ _ _ (inl (omega (arith, none b, record-zeros 1 (b - 0)))))))
-    (here (rw (length-memory w) (fifth (unsignedBy [] (lent w ledger) (entries l2) (entries5 w ledger)) (rw (lt-ltb 0 X more, unsigned (memory w) 0 5) refl)))))
+    (past (rw (length-memory w) (no-fifth (clashes (smallStore w ledger) (entries l2) (entries5 w ledger)) (λ b. no-clash _ _ _ _ (inl (omega (arith, none b, record-zeros 1 (b - 0)))))))
+    (here (rw (length-memory w) (fifth (unsignedBy [] (smallStore w ledger) (entries l2) (entries5 w ledger)) (rw (lt-ltb 0 X more, unsigned (memory w) 0 5) refl)))))
 
 -- block 5's w is at the limit already
-create-13 : answerOf (createRefusals l2 [] (lent 0x503F (putRecordWord ledger (counterPlace writable) 5 limit)) 0) ≡ 13
+create-13 : answerOf (createRefusals l2 [] (smallStore 0x503F (putRecordWord ledger (counterWord writable) 5 counterLimit)) 0) ≡ 13
 unfolding word putWord recordWord putRecordWord l2Entry isPageForm rightsOf mayRead mayWrite mayExecute num gives grants allows rights covers first size someOverrun someCounter overruns endsBelow endValue
 create-13 =
     let w : ℕ = 0x503F in
-    let led = putRecordWord ledger (counterPlace writable) 5 limit in
+    let led = putRecordWord ledger (counterWord writable) 5 counterLimit in
     let e = first-entry w (omega arith) .1 in
     let more = gives-some w led refl writable 5 (ap (λ (x : Entry). gives writable x 5) e) in
     let none : (b : ℕ) → gain (entries l2) (entries5 w led) executable b ≡ 0 = λ b. gives-none w led refl executable b (ap (λ (x : Entry). gives executable x b) e) in
-    let unexecuted : (b : ℕ) → recordWord led (counterPlace executable) b ≡ 0 =
-    λ b. recordWord-put-other ledger (counterPlace writable) 5 limit (counterPlace executable) b (omega arith) (omega arith) (λ _ z. omega arith) ∙ record-zeros 2 b in
+    let unexecuted : (b : ℕ) → recordWord led (counterWord executable) b ≡ 0 =
+    λ b. recordWord-put-other ledger (counterWord writable) 5 counterLimit (counterWord executable) b (omega arith) (omega arith) (λ _ z. omega arith) ∙ record-zeros 2 b in
     let W = gain (entries l2) (entries5 w led) writable 5 in
     create-from-11 w 3 (omega arith) refl led refl refl refl refl (refl, refl, refl)
-    (past (rw (length-memory w) (no-fifth (clashes (lent w led) (entries l2) (entries5 w led)) (λ b. no-clash _ _ _ _ (inr (omega (arith, none b, unexecuted (b - 0)))))))
-    (past (rw (length-memory w) (no-fifth (unsignedBy [] (lent w led) (entries l2) (entries5 w led)) (λ b. rw (none b) refl)))
-    (here (rw (length-memory w) (fifth _ (rw (lt-ltb 0 W more, lt-ltb limit (limit + W) (omega arith)) refl))))))
+    (past (rw (length-memory w) (no-fifth (clashes (smallStore w led) (entries l2) (entries5 w led)) (λ b. no-clash _ _ _ _ (inr (omega (arith, none b, unexecuted (b - 0)))))))
+    (past (rw (length-memory w) (no-fifth (unsignedBy [] (smallStore w led) (entries l2) (entries5 w led)) (λ b. rw (none b) refl)))
+    (here (rw (length-memory w) (fifth _ (rw (lt-ltb 0 W more, lt-ltb counterLimit (counterLimit + W) (omega arith)) refl))))))
 
 -- Free of block 0
 
-free-1 : answerOf (freeRefusals l2 (lent 0 (putWord ledger basePlace 1)) 0) ≡ 1
+free-1 : answerOf (freeRefusals l2 (smallStore 0 (putWord ledger basePlace 1)) 0) ≡ 1
 unfolding word putWord
 free-1 = decides (here (unfit 0 (putWord ledger basePlace 1) refl))
 
-free-2 : answerOf (freeRefusals l2 (lent 0 ledger) 8) ≡ 2
+free-2 : answerOf (freeRefusals l2 (smallStore 0 ledger) 8) ≡ 2
 unfolding outside word
 free-2 = decides (past (fit 0 ledger refl) (here (rw (length-memory 0) refl)))
 
-free-3 : answerOf (freeRefusals l1 (lent 0 ledger) 1) ≡ 3
+free-3 : answerOf (freeRefusals l1 (smallStore 0 ledger) 1) ≡ 3
 unfolding outside word
 free-3 = decides (past (fit 0 ledger refl) (past (rw (length-memory 0) refl) (here refl)))
 
-free-5 : answerOf (freeRefusals l2 (lent 0 ledger) 0) ≡ 5
+free-5 : answerOf (freeRefusals l2 (smallStore 0 ledger) 0) ≡ 5
 unfolding outside word recordWord
 free-5 = decides (past (fit 0 ledger refl) (past (rw (length-memory 0) refl) (past refl (here (rw one-block refl)))))
 
 -- up to 5 nothing is held against block 0 of a ledger in which it is L2
-free-from-6 : {k : ℕ} (w : ℕ) (led : List ℕ) → length led ≡ head + width * 8 → word led basePlace ≡ 0 → recordWord led typePlace 0 ≡ code l2
-    → Decides (drop 4 (freeRefusals l2 (lent w led) 0)) k → answerOf (freeRefusals l2 (lent w led) 0) ≡ k
+free-from-6 : {k : ℕ} (w : ℕ) (led : List ℕ) → length led ≡ ledgerHeadBytes + ledgerRecordBytes * 8 → word led basePlace ≡ 0 → recordWord led typeWord 0 ≡ typeCode l2
+    → Decides (drop 4 (freeRefusals l2 (smallStore w led) 0)) k → answerOf (freeRefusals l2 (smallStore w led) 0) ≡ k
 unfolding outside
 free-from-6 w led l based type d =
-    decides (past (rw based (fit w led l)) (past (rw (based, length-memory w) refl) (past refl (past (one-block 0 (λ b. neqb (typeOf (lent w led) b) (code l2)) ∙ rw (based, type) refl) d))))
+    decides (past (rw based (fit w led l)) (past (rw (based, length-memory w) refl) (past refl (past (one-block 0 (λ b. neqb (typeOf (smallStore w led) b) (typeCode l2)) ∙ rw (based, type) refl) d))))
 
 -- an L2 block that is linked to, and an L1 table that is active
-free-6 : answerOf (freeRefusals l2 (lent 0 (putRecordWord oneL2 (counterPlace linked) 0 1)) 0) ≡ 6
+free-6 : answerOf (freeRefusals l2 (smallStore 0 (putRecordWord oneL2 (counterWord linked) 0 1)) 0) ≡ 6
 unfolding word recordWord putRecordWord putWord inUse
-free-6 = free-from-6 0 (putRecordWord oneL2 (counterPlace linked) 0 1) refl refl refl (here refl)
+free-6 = free-from-6 0 (putRecordWord oneL2 (counterWord linked) 0 1) refl refl refl (here refl)
 
-free-6-active : answerOf (freeRefusals l1 (lent 0 oneL1) 0) ≡ 6
+free-6-active : answerOf (freeRefusals l1 (smallStore 0 oneL1) 0) ≡ 6
 unfolding outside word recordWord putRecordWord putWord retype inUse
 free-6-active = decides (past (fit 0 oneL1 refl) (past (rw (length-memory 0) refl) (past refl (past (rw four-blocks refl) (here refl)))))
 
-free-8 : answerOf (freeRefusals l2 (lent 1 oneL2) 0) ≡ 8
+free-8 : answerOf (freeRefusals l2 (smallStore 1 oneL2) 0) ≡ 8
 unfolding word recordWord putRecordWord putWord inUse l2Entry isPageForm isUnaccepted
 free-8 = free-from-6 1 oneL2 refl refl refl (past refl (here (some-entry 1 oneL2 refl isUnaccepted (ap isUnaccepted (first-entry 1 (omega arith) .1)))))
 
-free-10 : answerOf (freeRefusals l2 (lent 0x6403F oneL2) 0) ≡ 10
+free-10 : answerOf (freeRefusals l2 (smallStore 0x6403F oneL2) 0) ≡ 10
 unfolding word recordWord putRecordWord putWord inUse l2Entry isPageForm isUnaccepted astray outside first size
 free-10 =
     let w : ℕ = 0x6403F in
@@ -227,21 +227,21 @@ free-10 =
     free-from-6 w oneL2 refl refl refl
     (past refl
     (past (no-entry w oneL2 refl isUnaccepted (ap isUnaccepted e) refl)
-    (here (some-entry w oneL2 refl (astray 0 (blocks (lent w oneL2))) (rw (e, length-memory w) refl)))))
+    (here (some-entry w oneL2 refl (astray 0 (blocks (smallStore w oneL2))) (rw (e, length-memory w) refl)))))
 
 -- up to 10 nothing is held against a page in block 5
-free-from-13 : {k : ℕ} (w r : ℕ) → w < 2 ^ 32 → l2Entry w ≡ page 5 r → (led : List ℕ) → length led ≡ head + width * 8 → word led basePlace ≡ 0 → recordWord led typePlace 0 ≡ code l2
-    → recordWord led (counterPlace linked) 0 ≡ 0 → Decides (drop 7 (freeRefusals l2 (lent w led) 0)) k → answerOf (freeRefusals l2 (lent w led) 0) ≡ k
+free-from-13 : {k : ℕ} (w r : ℕ) → w < 2 ^ 32 → l2Entry w ≡ page 5 r → (led : List ℕ) → length led ≡ ledgerHeadBytes + ledgerRecordBytes * 8 → word led basePlace ≡ 0 → recordWord led typeWord 0 ≡ typeCode l2
+    → recordWord led (counterWord linked) 0 ≡ 0 → Decides (drop 7 (freeRefusals l2 (smallStore w led) 0)) k → answerOf (freeRefusals l2 (smallStore w led) 0) ≡ k
 unfolding inUse isUnaccepted astray outside first size
 free-from-13 w r h is led l based type free d =
     let e = first-entry w h .1 ∙ is in
     free-from-6 w led l based type
     (past (rw (based, free) refl)
     (past (no-entry w led based isUnaccepted (ap isUnaccepted e) refl)
-    (past (no-entry w led based (astray (base (lent w led)) (blocks (lent w led))) (rw (e, based, length-memory w) refl) refl) d)))
+    (past (no-entry w led based (astray (base (smallStore w led)) (blocks (smallStore w led))) (rw (e, based, length-memory w) refl) refl) d)))
 
 -- a counter of 0 that falls, and one that stays above the limit
-free-13-below : answerOf (freeRefusals l2 (lent 0x503F oneL2) 0) ≡ 13
+free-13-below : answerOf (freeRefusals l2 (smallStore 0x503F oneL2) 0) ≡ 13
 unfolding word recordWord putRecordWord putWord l2Entry isPageForm rightsOf mayRead mayWrite mayExecute num gives grants allows rights covers first size someOverrun someCounter overruns endsBelow endValue
 free-13-below =
     let w : ℕ = 0x503F in
@@ -249,7 +249,7 @@ free-13-below =
     let W = gain (entries l2) (entries5 w oneL2) writable 5 in
     free-from-13 w 3 (omega arith) refl oneL2 refl refl refl refl (here (rw (length-memory w) (fifth _ (rw (lt-ltb 0 W more) refl))))
 
-free-13-above : answerOf (freeRefusals l2 (lent 0x503F (writesTo5 (2 ^ 31))) 0) ≡ 13
+free-13-above : answerOf (freeRefusals l2 (smallStore 0x503F (writesTo5 (2 ^ 31))) 0) ≡ 13
 unfolding word recordWord putRecordWord putWord l2Entry isPageForm rightsOf mayRead mayWrite mayExecute num gives grants allows rights covers first size someOverrun someCounter overruns endsBelow endValue
 free-13-above =
     let w : ℕ = 0x503F in
@@ -258,4 +258,4 @@ free-13-above =
     let W = gain (entries l2) (entries5 w led) writable 5 in
     let few = gain-most (entries l2) (entries5 w led) writable 5 in
     free-from-13 w 3 (omega arith) refl led refl refl refl refl
-    (here (rw (length-memory w) (fifth _ (rw (lt-ltb 0 W more, lt-ltb limit (2 ^ 31 - W) (omega arith), or-true) refl))))
+    (here (rw (length-memory w) (fifth _ (rw (lt-ltb 0 W more, lt-ltb counterLimit (2 ^ 31 - W) (omega arith), or-true) refl))))

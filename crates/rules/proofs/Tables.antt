@@ -6,11 +6,11 @@ use native.Mathlib.Nat.{mul-add-div}
 use native.Mathlib.Omega.{arith}
 use Rattle.entries.specs.Entries.{fault, Level, l1, l2, entryAt}
 use Rattle.rules.specs.Store.{blockWords}
-use Rattle.rules.specs.Tables.{typeD, code, typedEntry}
+use Rattle.rules.specs.Tables.{typeD, typeCode, typedEntry}
 use Rattle.rules.specs.Steps.{Told}
 use Rattle.rules.proofs.State.{entryOf}
 
-pub typedEntry-table : (v : Level) (mem : List ℕ) (j : ℕ) → typedEntry (code v) mem j ≡ entryAt v mem j
+pub typedEntry-table : (v : Level) (mem : List ℕ) (j : ℕ) → typedEntry (typeCode v) mem j ≡ entryAt v mem j
 unfolding typedEntry
 typedEntry-table l1 mem j = refl
 typedEntry-table l2 mem j = refl
@@ -28,8 +28,8 @@ module _ (B : ℕ) (h : Told) (mem : List ℕ) (j q : ℕ) (in-block : B + j / b
   entryOf-type : (t : ℕ) → h .types q ≡ t → entryOf B h mem j ≡ typedEntry t mem j
   entryOf-type t e = ap (λ (x : ℕ). typedEntry x mem j) (ap (h .types) in-block ∙ e)
 
-  pub entryOf-table : (v : Level) → h .types q ≡ code v → entryOf B h mem j ≡ entryAt v mem j
-  entryOf-table v e = entryOf-type (code v) e ∙ typedEntry-table v mem j
+  pub entryOf-table : (v : Level) → h .types q ≡ typeCode v → entryOf B h mem j ≡ entryAt v mem j
+  entryOf-table v e = entryOf-type (typeCode v) e ∙ typedEntry-table v mem j
 
   pub entryOf-data : h .types q ≡ typeD → entryOf B h mem j ≡ fault
   entryOf-data e = entryOf-type typeD e ∙ typedEntry-data mem j

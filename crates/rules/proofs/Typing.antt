@@ -7,8 +7,8 @@ use Prim.Native.Nat.{ℕ, _+_, _-_, _*_, _/_, _^_, _<_, _≤_}
 use native.Mathlib.Omega.{arith}
 use Rattle.words.proofs.Bounded.{window-or-outside, below-or-above}
 use Rattle.entries.specs.Entries.{Entry, Level, l1, l2, fault}
-use Rattle.rules.specs.Store.{blockWords, Store, blocks, base, recordWord, Counter, retype, typePlace, basePlace, activePlace}
-use Rattle.rules.specs.Tables.{typeD, code, tableBlocks, entries, tableEntry, typedEntry}
+use Rattle.rules.specs.Store.{blockWords, Store, blocks, base, recordWord, Counter, retype, typeWord, basePlace, activePlace}
+use Rattle.rules.specs.Tables.{typeD, typeCode, tableBlocks, entries, tableEntry, typedEntry}
 use Rattle.rules.specs.General.{Change, added, removed, recounted}
 use Rattle.rules.specs.Steps.{Told, typed}
 use Rattle.rules.proofs.Consistent.{Suits, Turned, windowBefore, windowAfter}
@@ -21,10 +21,10 @@ use mathlib.Core.List.{List}
 -- the types before and after create (its entries are added) and free (they are removed)
 abbrev pub typeBefore : Change → Level → ℕ
 typeBefore added v = typeD
-typeBefore removed v = code v
+typeBefore removed v = typeCode v
 
 abbrev pub typeAfter : Change → Level → ℕ
-typeAfter added v = code v
+typeAfter added v = typeCode v
 typeAfter removed v = typeD
 
 small-type : (d : Change) (v : Level) → typeAfter d v < 2 ^ 32
@@ -53,14 +53,14 @@ module _ (d : Change) (v : Level) (p : ℕ) {h : Told} {s : Store} (r : Running 
   abbrev led : List ℕ
   led = recounted d s (entries v) e
 
-  type-retyped : (b : ℕ) → b < blocks s → recordWord (retype led b₀ (tableBlocks v) t) typePlace b ≡ typeAt (base s) (retold d v p h) b
+  type-retyped : (b : ℕ) → b < blocks s → recordWord (retype led b₀ (tableBlocks v) t) typeWord b ≡ typeAt (base s) (retold d v p h) b
   type-retyped b l = ⊎-elim inside outside (window-or-outside b b₀ (tableBlocks v)) where
-    inside : (b₀ ≤ b) × (b < b₀ + tableBlocks v) → recordWord (retype led b₀ (tableBlocks v) t) typePlace b ≡ typeAt (base s) (retold d v p h) b
+    inside : (b₀ ≤ b) × (b < b₀ + tableBlocks v) → recordWord (retype led b₀ (tableBlocks v) t) typeWord b ≡ typeAt (base s) (retold d v p h) b
     inside (lo, hi) =
         type-retype-in led b₀ (tableBlocks v) t (blocks s) b (length-recounted d s (entries v) e ∙ r .fit .ledger-length) (omega arith) (small-type d v) lo hi
         ∙ sym (typed-in (h .types) p (tableBlocks v) t (base s + b) (omega arith) (omega arith))
 
-    outside : (b₀ ≤ b → b₀ + tableBlocks v ≤ b) → recordWord (retype led b₀ (tableBlocks v) t) typePlace b ≡ typeAt (base s) (retold d v p h) b
+    outside : (b₀ ≤ b → b₀ + tableBlocks v ≤ b) → recordWord (retype led b₀ (tableBlocks v) t) typeWord b ≡ typeAt (base s) (retold d v p h) b
     outside o =
         type-retype-out led b₀ (tableBlocks v) t b o ∙ type-recounted d s (entries v) e b ∙ r .types-are b l
         ∙ sym (typed-out (h .types) p (tableBlocks v) t (base s + b) (λ k. omega (arith, o (omega arith))))
@@ -83,7 +83,7 @@ module _ (d : Change) (v : Level) (p : ℕ) {h : Told} {s : Store} (r : Running 
     as-data : k .types (p + i / blockWords) ≡ typeD → entryOf (base s) k (s .memory) (blockWords * b₀ + i) ≡ fault
     as-data = entryOf-data (base s) k (s .memory) (blockWords * b₀ + i) (p + i / blockWords) (word-block (base s) p i low)
 
-    as-table : k .types (p + i / blockWords) ≡ code v → entryOf (base s) k (s .memory) (blockWords * b₀ + i) ≡ e i
+    as-table : k .types (p + i / blockWords) ≡ typeCode v → entryOf (base s) k (s .memory) (blockWords * b₀ + i) ≡ e i
     as-table = entryOf-table (base s) k (s .memory) (blockWords * b₀ + i) (p + i / blockWords) (word-block (base s) p i low) v
 
   pub typing-turned : ((k : ℕ) → k < tableBlocks v → h .types (p + k) ≡ typeBefore d v)
@@ -124,7 +124,7 @@ module _ (d : Change) (v : Level) (p : ℕ) {h : Told} {s : Store} (r : Running 
       }
 
 -- a block of a table of another type is no block of the table that was switched to
-pub other-table : (types : ℕ → ℕ) (p q m t x : ℕ) → ((k : ℕ) → k < m → types (p + k) ≡ t) → ((i : ℕ) → i < tableBlocks l1 → types (q + i) ≡ code l1) → t ≢ code l1
+pub other-table : (types : ℕ → ℕ) (p q m t x : ℕ) → ((k : ℕ) → k < m → types (p + k) ≡ t) → ((i : ℕ) → i < tableBlocks l1 → types (q + i) ≡ typeCode l1) → t ≢ typeCode l1
     → p ≤ x → x < p + m → q ≤ x → x < q + tableBlocks l1 → ⊥
 other-table types p q m t x was root n lo hi lo′ hi′ =
     let i : p + (x - p) ≡ x = omega arith in

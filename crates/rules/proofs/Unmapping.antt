@@ -4,12 +4,12 @@ use mathlib.Core.Path.{_≡_, refl}
 use Prim.Native.Nat.{ℕ, _+_}
 use native.Mathlib.Omega.{arith}
 use Rattle.entries.specs.Entries.{Entry, fault}
-use Rattle.entries.specs.Written.{a-fault}
+use Rattle.entries.proofs.RoundTrip.{a-fault}
 use Rattle.rules.specs.Store.{Store}
 use Rattle.rules.specs.Tables.{Form, level, words, tableEntry}
 use Rattle.rules.specs.General.{removed, endValue, someOverrun}
 use Rattle.rules.specs.Unmap.{unmapRefusals, unmapAfter, unmapOutcome}
-use Rattle.rules.specs.Steps.{unmaps, Told, told}
+use Rattle.rules.specs.Steps.{unmaps, Told, afterAccepted}
 use Rattle.rules.proofs.Refusals.{Passed, front, now, rest}
 use Rattle.rules.proofs.State.{Running, Next, next-13}
 use Rattle.rules.proofs.Edits.{slot, one-word, edits}
@@ -32,5 +32,5 @@ module _ (f : Form) (p i : ℕ) {h : Told} {s : Store} (r : Running h s) where
       removes r (edits r v p i m sl removed entry fault a-fault (λ k l. refl) (λ k l. refl) (omega (arith, sl .unexecuted)))
 
   pub unmap-next : Next h (unmaps f p i) (unmapOutcome f s p i)
-  unfolding unmapOutcome told entry
+  unfolding unmapOutcome afterAccepted entry
   unmap-next = next-13 (unmaps f p i) (unmapAfter f s p i) (unmapRefusals f s p i) r (omega arith) (omega arith) (omega arith) unmapped

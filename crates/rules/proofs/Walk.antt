@@ -6,12 +6,13 @@ use mathlib.Core.Path.{_≡_, refl, sym, _∙_, ap}
 use Prim.Native.Nat.{ℕ, _+_, _-_, _*_, _/_, _%_, _^_, _<_, _≤_}
 use native.Mathlib.Nat.{mod-lt}
 use native.Mathlib.Omega.{arith}
-use borrow.Author.Tests.{lt-ltb, le-leb}
+use borrow.Author.Tests.{lt-ltb}
 use Rattle.words.specs.Words.{bits}
-use Rattle.entries.specs.Entries.{Entry, fault, unaccepted, link, section, page, Level, l1, l2, entryAt, isFault, isUnaccepted, isLink, rights, first, size, covers}
+use Rattle.words.proofs.Bounded.{among-in}
+use Rattle.entries.specs.Entries.{Entry, fault, unaccepted, link, section, page, Level, l1, l2, entryAt, isFault, isUnaccepted, isLink, rights, first, size, covers, blockTables}
 use Rattle.words.proofs.Fields.{bits-bound}
 use Rattle.rules.specs.Store.{blockBytes, blockWords, Store, blocks, base, linked}
-use Rattle.rules.specs.Tables.{code, gives, grants, astray, blockTables, l2Words}
+use Rattle.rules.specs.Tables.{typeCode, gives, grants, astray, l2Words}
 use Rattle.rules.specs.Guest.{Walk, stops, ends, passes, endsAt, secondEntry, follow, walk}
 use Rattle.rules.specs.Steps.{Told}
 use Rattle.rules.proofs.Consistent.{Sound}
@@ -66,7 +67,7 @@ module _ (B n : ℕ) (K : ℕ → ℕ) (E : ℕ → Entry) where
         word = j;
         in-memory = l;
         has = ap rights q;
-        reaches = rw (q, le-leb (first e) p (omega arith), lt-ltb p (first e + size e) (omega arith)) refl;
+        reaches = rw (q, among-in (first e) (size e) p (omega arith) (omega arith)) refl;
         low = omega arith;
         high = omega arith;
       }
@@ -83,7 +84,7 @@ module _ {h : Told} {s : Store} (r : Running h s) (addr : ℕ) where
 
   -- word j lies in a block of a table of level v
   abbrev InTable : Level → ℕ → Type 0
-  InTable v j = (j < blockWords * blocks s) × (h .types (base s + j / blockWords) ≡ code v)
+  InTable v j = (j < blockWords * blocks s) × (h .types (base s + j / blockWords) ≡ typeCode v)
 
   table-entry : (v : Level) (j : ℕ) → InTable v j → (tables j ≡ entryAt v (s .memory) j) × Sound (base s) (blocks s) types (entryAt v (s .memory) j)
   table-entry v j (inside, typed) =
@@ -110,10 +111,10 @@ module _ {h : Told} {s : Store} (r : Running h s) (addr : ℕ) where
   unfolding size first gives grants isLink covers
   second-word place sound =
       let (low, high) = place-within (base s) (blocks s) (link place) (omega arith) (sound .inside) in
-      let b = place / 4 - base s in
+      let b = place / blockTables - base s in
       let in-block : base s + secondWord place / blockWords ≡ base s + b = omega arith in
       let leads : gives linked (link place) (base s + b) ≡ true =
-      rw (le-leb (place / 4) (base s + b) (omega arith), lt-ltb (base s + b) (place / 4 + 1) (omega arith)) refl in
+      rw (among-in (place / blockTables) 1 (base s + b) (omega arith) (omega arith)) refl in
       (omega arith, ap (h .types) in-block ∙ sound .suits linked b (omega arith) leads)
 
   through-link : (place : ℕ) → Sound (base s) (blocks s) types (link place)

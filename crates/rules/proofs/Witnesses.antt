@@ -11,9 +11,9 @@ use Rattle.words.proofs.Words.{length-putWord, word-putWord-same}
 use Rattle.entries.specs.Entries.{l1, l2, entryAt, l1Entry, l2Entry, isLinkForm, isSectionForm, isPageForm, isFault, isUnaccepted, isLink, rights, first, size, covers}
 use Rattle.entries.specs.Rights.{mayRead, mayWrite, mayExecute, rightsOf}
 use Rattle.rules.specs.Refusals.{answerOf}
-use Rattle.rules.specs.Store.{blockBytes, limit, basePlace, activePlace, Store, recordWord, putRecordWord, retype, typePlace, counterPlace, executable, linked, someCounter, misfit, outside, someBlock, settle}
+use Rattle.rules.specs.Store.{blockBytes, counterLimit, basePlace, activePlace, Store, recordWord, putRecordWord, retype, typeWord, counterWord, executable, linked, someCounter, misfit, outside, someBlock, settle}
 use Rattle.rules.specs.Signature.{misfitImage}
-use Rattle.rules.specs.Tables.{code, sections, pages, allows, grants, gives, gain, astray}
+use Rattle.rules.specs.Tables.{typeCode, sections, pages, allows, grants, gives, gain, astray}
 use Rattle.rules.specs.General.{endValue, endsBelow, overruns, someOverrun}
 use Rattle.rules.specs.Begin.{beginOutcome}
 use Rattle.rules.specs.Map.{mapOutcome, unlawfulRights, unfitTarget, clashingTarget, unsignedTarget}
@@ -22,20 +22,20 @@ use Rattle.rules.specs.Unmap.{unmapOutcome}
 use Rattle.rules.specs.Switch.{switchOutcome}
 use Rattle.rules.specs.Guest.{reads, guestOutcome, walk, passes, follow, walkRefusals, needed}
 use Rattle.rules.specs.Steps.{Step, begins, maps, links, unmaps, switches, accesses, obey}
-use Rattle.rules.proofs.SmallStores.{memory, length-memory, first-entry, ledger, lent, fit, unfit, oneL2, oneL1, writesTo5, unsigned}
+use Rattle.rules.proofs.SmallStores.{memory, length-memory, first-entry, ledger, smallStore, fit, unfit, oneL2, oneL1, writesTo5, unsigned}
 
 -- the answers of some steps, each taken in the same store
 answers : List ℕ → Store → List Step → List ℕ
 answers golden s steps = map (λ step. obey golden s step .answer) steps
 
 -- begin is accepted, so that lists start
-accepted-begin : answers [] (lent 0 ledger) (begins 0 ∷ []) ≡ (0 ∷ [])
+accepted-begin : answers [] (smallStore 0 ledger) (begins 0 ∷ []) ≡ (0 ∷ [])
 unfolding answers obey beginOutcome settle answerOf
 accepted-begin = rw (fit 0 ledger refl) refl
 
 -- Numbers before the entry is looked at
 
-numbers-2-to-5 : answers [] (lent 0 ledger)
+numbers-2-to-5 : answers [] (smallStore 0 ledger)
     (switches 8 ∷ switches 1 ∷ switches 0
     ∷ links 8 0 0 0 ∷ links 1 0 0 0 ∷ links 0 4096 0 0 ∷ links 0 0 0 4 ∷ links 0 0 0 0
     ∷ maps pages 8 0 0 0 ∷ maps sections 1 0 0 0 ∷ maps sections 0 0 1 0 ∷ maps pages 0 1024 0 0 ∷ maps pages 0 0 0 0
@@ -45,42 +45,42 @@ unfolding answers obey switchOutcome linkOutcome mapOutcome unmapOutcome settle 
 numbers-2-to-5 = rw (fit 0 ledger refl, length-memory 0) refl
 
 -- 1, for a stored or given B that is no multiple of 256, and for a golden image of one byte
-number-1 : answers [] (lent 0 (putWord ledger basePlace 1)) (begins 1 ∷ switches 0 ∷ links 0 0 0 0 ∷ maps pages 0 0 0 0 ∷ unmaps pages 0 0 ∷ accesses reads 0 ∷ []) ≡ (1 ∷ 1 ∷ 1 ∷ 1 ∷ 1 ∷ 1 ∷ [])
+number-1 : answers [] (smallStore 0 (putWord ledger basePlace 1)) (begins 1 ∷ switches 0 ∷ links 0 0 0 0 ∷ maps pages 0 0 0 0 ∷ unmaps pages 0 0 ∷ accesses reads 0 ∷ []) ≡ (1 ∷ 1 ∷ 1 ∷ 1 ∷ 1 ∷ 1 ∷ [])
 unfolding answers obey beginOutcome switchOutcome linkOutcome mapOutcome unmapOutcome guestOutcome settle answerOf word putWord
 number-1 = rw (unfit 0 (putWord ledger basePlace 1) refl) refl
 
-number-1-image : answers (0 ∷ []) (lent 0 ledger) (maps pages 0 0 0 0 ∷ []) ≡ (1 ∷ [])
+number-1-image : answers (0 ∷ []) (smallStore 0 ledger) (maps pages 0 0 0 0 ∷ []) ≡ (1 ∷ [])
 unfolding answers obey mapOutcome settle answerOf misfitImage word
 number-1-image = rw (fit 0 ledger refl) refl
 
 -- Map and unmap in an L2 block, link in an L1 table
 
-number-7 : (answers [] (lent 0 (putRecordWord oneL2 (counterPlace executable) 0 1)) (maps pages 0 0 4 0 ∷ unmaps pages 0 0 ∷ []) ≡ (7 ∷ 7 ∷ []))
-    × (answers [] (lent 0 (putRecordWord oneL1 (counterPlace executable) 0 1)) (links 0 0 4 0 ∷ []) ≡ (7 ∷ []))
+number-7 : (answers [] (smallStore 0 (putRecordWord oneL2 (counterWord executable) 0 1)) (maps pages 0 0 4 0 ∷ unmaps pages 0 0 ∷ []) ≡ (7 ∷ 7 ∷ []))
+    × (answers [] (smallStore 0 (putRecordWord oneL1 (counterWord executable) 0 1)) (links 0 0 4 0 ∷ []) ≡ (7 ∷ []))
 unfolding answers obey linkOutcome mapOutcome unmapOutcome settle answerOf outside someBlock any recordWord putRecordWord word putWord retype misfitImage
 number-7 = (
-  rw (fit 0 (putRecordWord oneL2 (counterPlace executable) 0 1) refl, length-memory 0) refl,
-  rw (fit 0 (putRecordWord oneL1 (counterPlace executable) 0 1) refl, length-memory 0) refl,
+  rw (fit 0 (putRecordWord oneL2 (counterWord executable) 0 1) refl, length-memory 0) refl,
+  rw (fit 0 (putRecordWord oneL1 (counterWord executable) 0 1) refl, length-memory 0) refl,
 )
 
 -- the first word is 1: an L1 entry that is a link, an L2 entry that is not accepted
-number-8 : (answers [] (lent 1 oneL2) (maps pages 0 0 4 0 ∷ unmaps pages 0 0 ∷ []) ≡ (8 ∷ 8 ∷ [])) × (answers [] (lent 1 oneL1) (links 0 0 4 0 ∷ []) ≡ (8 ∷ []))
+number-8 : (answers [] (smallStore 1 oneL2) (maps pages 0 0 4 0 ∷ unmaps pages 0 0 ∷ []) ≡ (8 ∷ 8 ∷ [])) × (answers [] (smallStore 1 oneL1) (links 0 0 4 0 ∷ []) ≡ (8 ∷ []))
 unfolding answers obey linkOutcome mapOutcome unmapOutcome settle answerOf outside someBlock any recordWord putRecordWord word putWord retype misfitImage l1Entry l2Entry isLinkForm isPageForm isFault isUnaccepted
 number-8 =
     let (e1, e2) = first-entry 1 (omega arith) in
     (rw (fit 1 oneL2 refl, length-memory 1, e2) refl, rw (fit 1 oneL1 refl, length-memory 1, e1) refl)
 
 -- rights 2; a target outside; write and execute
-numbers-9-to-11 : answers [] (lent 0 oneL2) (maps pages 0 0 4 2 ∷ maps pages 0 0 8 0 ∷ maps pages 0 0 4 7 ∷ []) ≡ (9 ∷ 10 ∷ 11 ∷ [])
+numbers-9-to-11 : answers [] (smallStore 0 oneL2) (maps pages 0 0 4 2 ∷ maps pages 0 0 8 0 ∷ maps pages 0 0 4 7 ∷ []) ≡ (9 ∷ 10 ∷ 11 ∷ [])
 unfolding answers obey mapOutcome settle answerOf outside someBlock any recordWord putRecordWord word putWord misfitImage l2Entry isFault unlawfulRights allows unfitTarget clashingTarget
 numbers-9-to-11 = let (_, e) = first-entry 0 (omega arith) in rw (fit 0 oneL2 refl, length-memory 0, e) refl
 
-number-12 : answers [] (lent 0 oneL2) (maps pages 0 0 4 5 ∷ []) ≡ (12 ∷ [])
+number-12 : answers [] (smallStore 0 oneL2) (maps pages 0 0 4 5 ∷ []) ≡ (12 ∷ [])
 unfolding answers obey mapOutcome settle answerOf outside someBlock any recordWord putRecordWord word putWord misfitImage l2Entry isFault unlawfulRights allows unfitTarget clashingTarget unsignedTarget
 number-12 = let (_, e) = first-entry 0 (omega arith) in rw (fit 0 oneL2 refl, length-memory 0, e, unsigned (memory 0) 0 4) refl
 
 -- a link to a block outside, or to data; the removal of page 100
-number-10 : (answers [] (lent 0 oneL1) (links 0 0 8 0 ∷ links 0 0 4 0 ∷ []) ≡ (10 ∷ 10 ∷ [])) × (answers [] (lent 0x6403F oneL2) (unmaps pages 0 0 ∷ []) ≡ (10 ∷ []))
+number-10 : (answers [] (smallStore 0 oneL1) (links 0 0 8 0 ∷ links 0 0 4 0 ∷ []) ≡ (10 ∷ 10 ∷ [])) × (answers [] (smallStore 0x6403F oneL2) (unmaps pages 0 0 ∷ []) ≡ (10 ∷ []))
 unfolding answers obey linkOutcome unmapOutcome settle answerOf outside someBlock any recordWord putRecordWord word putWord retype l1Entry l2Entry isPageForm isFault isUnaccepted astray first size
 number-10 =
     let (e, _) = first-entry 0 (omega arith) in
@@ -90,33 +90,33 @@ number-10 =
 -- Counters: block 5 is written by the page 503F (hexadecimal), or linked to
 
 -- a counter at the limit that rises; one of 0 that falls; one that falls to the limit and 1; one that falls to the limit is accepted
-number-13-map : answers [] (lent 0 (writesTo5 limit)) (maps pages 0 0 5 3 ∷ []) ≡ (13 ∷ [])
+number-13-map : answers [] (smallStore 0 (writesTo5 counterLimit)) (maps pages 0 0 5 3 ∷ []) ≡ (13 ∷ [])
 unfolding answers obey mapOutcome settle answerOf outside someBlock any sum num recordWord putRecordWord word putWord misfitImage l2Entry isFault unlawfulRights allows unfitTarget clashingTarget unsignedTarget someOverrun someCounter overruns endValue endsBelow gain gives grants rights isLink covers first size
-number-13-map = let (_, e) = first-entry 0 (omega arith) in rw (fit 0 (writesTo5 limit) refl, length-memory 0, e) refl
+number-13-map = let (_, e) = first-entry 0 (omega arith) in rw (fit 0 (writesTo5 counterLimit) refl, length-memory 0, e) refl
 
-number-13-unmap : (answers [] (lent 0x503F (writesTo5 0)) (unmaps pages 0 0 ∷ []) ≡ (13 ∷ []))
-    × (answers [] (lent 0x503F (writesTo5 (limit + 2))) (unmaps pages 0 0 ∷ []) ≡ (13 ∷ []))
-    × (answers [] (lent 0x503F (writesTo5 (limit + 1))) (unmaps pages 0 0 ∷ []) ≡ (0 ∷ []))
+number-13-unmap : (answers [] (smallStore 0x503F (writesTo5 0)) (unmaps pages 0 0 ∷ []) ≡ (13 ∷ []))
+    × (answers [] (smallStore 0x503F (writesTo5 (counterLimit + 2))) (unmaps pages 0 0 ∷ []) ≡ (13 ∷ []))
+    × (answers [] (smallStore 0x503F (writesTo5 (counterLimit + 1))) (unmaps pages 0 0 ∷ []) ≡ (0 ∷ []))
 unfolding answers obey unmapOutcome settle answerOf outside someBlock any sum num recordWord putRecordWord word putWord l2Entry isPageForm isUnaccepted astray someOverrun someCounter overruns endValue endsBelow gain gives grants allows rights rightsOf mayRead mayWrite mayExecute isLink covers first size
 number-13-unmap =
     let (_, e) = first-entry 0x503F (omega arith) in (
       rw (fit 0x503F (writesTo5 0) refl, length-memory 0x503F, e) refl,
-      rw (fit 0x503F (writesTo5 (limit + 2)) refl, length-memory 0x503F, e) refl,
-      rw (fit 0x503F (writesTo5 (limit + 1)) refl, length-memory 0x503F, e) refl,
+      rw (fit 0x503F (writesTo5 (counterLimit + 2)) refl, length-memory 0x503F, e) refl,
+      rw (fit 0x503F (writesTo5 (counterLimit + 1)) refl, length-memory 0x503F, e) refl,
     )
 
-number-13-link : answers [] (lent 0 (putRecordWord (putRecordWord oneL1 typePlace 5 (code l2)) (counterPlace linked) 5 limit)) (links 0 0 5 0 ∷ []) ≡ (13 ∷ [])
+number-13-link : answers [] (smallStore 0 (putRecordWord (putRecordWord oneL1 typeWord 5 (typeCode l2)) (counterWord linked) 5 counterLimit)) (links 0 0 5 0 ∷ []) ≡ (13 ∷ [])
 unfolding answers obey linkOutcome settle answerOf outside someBlock any sum num recordWord putRecordWord word putWord retype l1Entry isFault someOverrun someCounter overruns endValue endsBelow gain gives grants allows rights isLink covers first size
 number-13-link =
     let (e, _) = first-entry 0 (omega arith) in
-    rw (fit 0 (putRecordWord (putRecordWord oneL1 typePlace 5 (code l2)) (counterPlace linked) 5 limit) refl, length-memory 0, e) refl
+    rw (fit 0 (putRecordWord (putRecordWord oneL1 typeWord 5 (typeCode l2)) (counterWord linked) 5 counterLimit) refl, length-memory 0, e) refl
 
 -- The guest
 
 -- active 1; a fault; the word 3, which no L1 entry may be
-numbers-21-22-24 : (answers [] (lent 0 (putWord ledger activePlace 1)) (accesses reads 0 ∷ []) ≡ (21 ∷ []))
-    × (answers [] (lent 0 ledger) (accesses reads 0 ∷ []) ≡ (22 ∷ []))
-    × (answers [] (lent 3 ledger) (accesses reads 0 ∷ []) ≡ (24 ∷ []))
+numbers-21-22-24 : (answers [] (smallStore 0 (putWord ledger activePlace 1)) (accesses reads 0 ∷ []) ≡ (21 ∷ []))
+    × (answers [] (smallStore 0 ledger) (accesses reads 0 ∷ []) ≡ (22 ∷ []))
+    × (answers [] (smallStore 3 ledger) (accesses reads 0 ∷ []) ≡ (24 ∷ []))
 unfolding answers obey guestOutcome settle answerOf outside word putWord walk passes walkRefusals l1Entry isLinkForm isSectionForm isFault isUnaccepted astray first size
 numbers-21-22-24 =
     let (e, _) = first-entry 0 (omega arith) in

@@ -2,13 +2,12 @@
 use mathlib.Core.Bool.{Bool, not, _&&_, _||_}
 use mathlib.Core.List.{List, [], _∷_}
 use Prim.Native.Nat.{ℕ, _+_, _-_}
-use lib.Dec.{leb, ltb}
-use Rattle.words.specs.Bounded.{above, neqb, any}
+use Rattle.words.specs.Bounded.{above, neqb, among, any}
 use Rattle.entries.specs.Entries.{Entry, Level, l2, isUnaccepted, isLink, first, size}
 use Rattle.rules.specs.Refusals.{Refusal, _if_, answerOf}
 use Rattle.rules.specs.Store.{Store, blocks, base, writable, executable, someCounter, typeOf, counter, retype, someBlock, someRegionBlock, misfit, Outcome, settle}
 use Rattle.rules.specs.Signature.{misfitImage, certified}
-use Rattle.rules.specs.Tables.{typeD, code, tableBlocks, entries, tableEntry, grants, gain, astray}
+use Rattle.rules.specs.Tables.{typeD, typeCode, tableBlocks, entries, tableEntry, grants, gain, astray}
 use Rattle.rules.specs.General.{tableOutside, misaligned, otherType, someOverrun, recounted, added}
 
 -- "6 if any counter of its blocks is above 0"
@@ -17,11 +16,11 @@ someCount v s p = someBlock p (tableBlocks v) (λ b. someCounter (λ c. above (c
 
 -- "a link's block isn't L2"
 unfoldable pub unfitLink : Store → Entry → Bool
-unfitLink s e = isLink e && someBlock (first e) (size e) (λ b. neqb (typeOf s b) (code l2))
+unfitLink s e = isLink e && someBlock (first e) (size e) (λ b. neqb (typeOf s b) (typeCode l2))
 
 -- "a writable target isn't D or is one of the blocks being typed"
 unfoldable pub unfitWrite : Level → Store → ℕ → Entry → Bool
-unfitWrite v s p e = grants writable e && someBlock (first e) (size e) (λ b. neqb (typeOf s b) typeD || leb p b && ltb b (p + tableBlocks v))
+unfitWrite v s p e = grants writable e && someBlock (first e) (size e) (λ b. neqb (typeOf s b) typeD || among p (tableBlocks v) b)
 
 -- "10 if some entry's place is not wholly in the region, a link's block isn't L2, or a writable target isn't D or is one of the blocks being typed"
 unfoldable pub misplaced : Level → Store → ℕ → Entry → Bool
@@ -58,7 +57,7 @@ createRefusals v golden s p =
 -- "Types and counters change, memory doesn't"
 abbrev pub createAfter : Level → Store → ℕ → Store
 createAfter v s p =
-    record { memory = s .memory; ledger = retype (recounted added s (entries v) (tableEntry v s p)) (p - base s) (tableBlocks v) (code v) }
+    record { memory = s .memory; ledger = retype (recounted added s (entries v) (tableEntry v s p)) (p - base s) (tableBlocks v) (typeCode v) }
 
 -- what create answers and leaves
 unfoldable pub createOutcome : Level → List ℕ → Store → ℕ → Outcome

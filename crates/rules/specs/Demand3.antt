@@ -7,7 +7,7 @@ use mathlib.Core.Path.{_≡_}
 use Prim.Native.Nat.{ℕ, suc, _+_, _≤_, _<_}
 use lib.ListN.{take, getD, getElem?}
 use Rattle.entries.specs.Entries.{Level}
-use Rattle.rules.specs.Store.{Store, blocks, Counter, writable, executable, recordWord, counterPlace}
+use Rattle.rules.specs.Store.{Store, blocks, Counter, writable, executable, recordWord, counterWord}
 use Rattle.rules.specs.Signature.{contents, certified}
 use Rattle.rules.specs.Tables.{typeD}
 use Rattle.rules.specs.Begin.{beginOutcome}
@@ -25,7 +25,7 @@ pub record Safe (h : Told) (s : Store) : Type 0 where
   -- every executable block is signed "by the block's bytes at that moment and the list's golden image"
   pub signs : (b : ℕ) → b < blocks s → 0 < counted h s executable b → certified (h .golden) (h .B) (s .memory) (h .B + b) ≡ true
   -- "the ledger's w, x and l are these numbers"
-  pub honest : (c : Counter) (b : ℕ) → b < blocks s → recordWord (s .ledger) (counterPlace c) b ≡ counted h s c b
+  pub honest : (c : Counter) (b : ℕ) → b < blocks s → recordWord (s .ledger) (counterWord c) b ≡ counted h s c b
 
 -- "A guest step alters a table if a byte of a block that is in the tables at that step differs after it": none does
 abbrev pub KeepsTables : Told → Store → Store → Type 0
@@ -69,5 +69,5 @@ pub record Demand3 (golden : List ℕ) (B : ℕ) (s : Store) (steps : List Step)
 -- "A list, perhaps empty, starts from what an accepted begin leaves, whatever memory and ledger it was lent"; any golden image of any length
 abbrev pub Demand3-holds : Type 0
 Demand3-holds =
-    (golden : List ℕ) (lent : Store) (B : ℕ) → beginOutcome lent B .answer ≡ 0
-    → (steps : List Step) → Demand3 golden B (beginOutcome lent B .after) steps
+    (golden : List ℕ) (start : Store) (B : ℕ) → beginOutcome start B .answer ≡ 0
+    → (steps : List Step) → Demand3 golden B (beginOutcome start B .after) steps

@@ -7,7 +7,7 @@ use Rattle.words.specs.Bounded.{above, any}
 use Rattle.entries.specs.Entries.{Level, l1, l2, isUnaccepted}
 use Rattle.rules.specs.Refusals.{Refusal, _if_, answerOf}
 use Rattle.rules.specs.Store.{Store, blocks, base, active, linked, counter, retype, misfit, Outcome, settle}
-use Rattle.rules.specs.Tables.{typeD, code, tableBlocks, entries, tableEntry, astray}
+use Rattle.rules.specs.Tables.{typeD, typeCode, tableBlocks, entries, tableEntry, astray}
 use Rattle.rules.specs.General.{tableOutside, misaligned, otherType, someOverrun, recounted, removed}
 
 -- "6 if active (L1) or l above 0 (L2)"
@@ -21,7 +21,7 @@ freeRefusals v s p =
     1 if misfit s (base s)
     ∷ 2 if tableOutside v s p
     ∷ 3 if misaligned p (tableBlocks v)
-    ∷ 5 if otherType v s p (code v)
+    ∷ 5 if otherType v s p (typeCode v)
     ∷ 6 if inUse v s p
     ∷ 8 if any (entries v) (λ i. isUnaccepted (tableEntry v s p i))
     ∷ 10 if any (entries v) (λ i. astray (base s) (blocks s) (tableEntry v s p i))

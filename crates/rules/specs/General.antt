@@ -6,7 +6,7 @@ use lib.Dec.{leb}
 use Rattle.words.specs.Bounded.{above, neqb, any}
 use Rattle.entries.specs.Entries.{Entry, Level, isFault}
 use Rattle.entries.specs.Written.{wordOf, cacheable}
-use Rattle.rules.specs.Store.{blockWords, limit, Store, blocks, base, executable, recordWord, counterPlace, someCounter, typeOf, counter, recount, fill, outside, someBlock, someRegionBlock}
+use Rattle.rules.specs.Store.{blockWords, counterLimit, Store, blocks, base, executable, recordWord, counterWord, someCounter, typeOf, counter, recount, fill, outside, someBlock, someRegionBlock}
 use Rattle.rules.specs.Tables.{tableBlocks, entries, wordIndex, tableEntry, gain}
 
 -- "2: the call's first block argument outside the region, for an L1 table any of its four"
@@ -49,7 +49,7 @@ endsBelow removed old k = above k old
 
 -- "13: a counter that the call alters would end below 0 or above 2^22"
 unfoldable pub overruns : Change → ℕ → ℕ → Bool
-overruns d old k = above k 0 && (endsBelow d old k || above (endValue d old k) limit)
+overruns d old k = above k 0 && (endsBelow d old k || above (endValue d old k) counterLimit)
 
 -- some counter gives 13 when the m entries e are added or removed
 unfoldable pub someOverrun : Change → Store → ℕ → (ℕ → Entry) → Bool
@@ -57,7 +57,7 @@ someOverrun d s m e = someRegionBlock s (λ b. someCounter (λ c. overruns d (co
 
 -- the ledger when they are
 abbrev pub recounted : Change → Store → ℕ → (ℕ → Entry) → List ℕ
-recounted d s m e = recount (s .ledger) (blocks s) (λ c b. endValue d (recordWord (s .ledger) (counterPlace c) b) (gain m e c (base s + b)))
+recounted d s m e = recount (s .ledger) (blocks s) (λ c b. endValue d (recordWord (s .ledger) (counterWord c) b) (gain m e c (base s + b)))
 
 -- What map and link have in common
 

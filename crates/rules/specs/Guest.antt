@@ -4,10 +4,10 @@ use mathlib.Core.List.{List, [], _∷_}
 use Prim.Native.Nat.{ℕ, _+_, _-_, _*_, _/_, _%_, _^_}
 use lib.ListN.{getD, set}
 use Rattle.words.specs.Words.{bits}
-use Rattle.entries.specs.Entries.{Entry, fault, unaccepted, link, section, page, Level, l1, l2, entryAt, isFault, isUnaccepted, rights, first, size}
+use Rattle.entries.specs.Entries.{Entry, fault, unaccepted, link, section, page, Level, l1, l2, blockTables, entryAt, isFault, isUnaccepted, rights, first, size}
 use Rattle.rules.specs.Refusals.{Refusal, _if_, answerOf}
 use Rattle.rules.specs.Store.{blockBytes, blockWords, Store, blocks, base, active, misfit, Outcome, settle}
-use Rattle.rules.specs.Tables.{tableBlocks, blockTables, l2Words, Right, read, write, execute, allows, astray}
+use Rattle.rules.specs.Tables.{tableBlocks, l2Words, Right, read, write, execute, allows, astray}
 use Rattle.rules.specs.General.{misaligned, tableOutside}
 
 -- a walk stops at an entry of a level with a number, or ends at an entry of a level in a physical block, with rights

@@ -3,10 +3,10 @@ use mathlib.Core.List.{List, [], _∷_}
 use Prim.Native.Nat.{ℕ, _+_, _*_}
 use lib.Dec.{leb}
 use Rattle.words.specs.Bounded.{neqb}
-use Rattle.entries.specs.Entries.{Entry, link, l1, l2}
+use Rattle.entries.specs.Entries.{Entry, link, l1, l2, blockTables}
 use Rattle.rules.specs.Refusals.{Refusal, _if_, answerOf}
 use Rattle.rules.specs.Store.{Store, base, typeOf, misfit, Outcome, settle}
-use Rattle.rules.specs.Tables.{code, tableBlocks, blockTables}
+use Rattle.rules.specs.Tables.{typeCode, tableBlocks}
 use Rattle.rules.specs.General.{tableOutside, misaligned, beyondTable, otherType, executableHolder, someOverrun, occupied, entered, added}
 
 -- "A link is the table's address + 1": the link to table j of block t
@@ -21,11 +21,11 @@ linkRefusals s p i t j =
     ∷ 3 if misaligned p (tableBlocks l1)
     ∷ 4 if beyondTable l1 i
     ∷ 4 if leb blockTables j
-    ∷ 5 if otherType l1 s p (code l1)
+    ∷ 5 if otherType l1 s p (typeCode l1)
     ∷ 7 if executableHolder s p i
     ∷ 8 if occupied l1 s p i 1
     ∷ 10 if tableOutside l2 s t
-    ∷ 10 if neqb (typeOf s t) (code l2)
+    ∷ 10 if neqb (typeOf s t) (typeCode l2)
     ∷ 13 if someOverrun added s 1 (λ k. linkTo t j)
     ∷ []
 

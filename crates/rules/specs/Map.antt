@@ -1,13 +1,12 @@
 -- Map L1 (section), map L2 (page) with block, index, target, rights ("Calls").
 use mathlib.Core.Bool.{Bool, not, _&&_, _||_}
 use mathlib.Core.List.{List, [], _∷_}
-use Prim.Native.Nat.{ℕ, _+_}
-use lib.Dec.{leb, ltb}
-use Rattle.words.specs.Bounded.{above, neqb}
+use Prim.Native.Nat.{ℕ}
+use Rattle.words.specs.Bounded.{above, neqb, among}
 use Rattle.rules.specs.Refusals.{Refusal, _if_, answerOf}
 use Rattle.rules.specs.Store.{Store, blocks, base, writable, executable, typeOf, counter, outside, someBlock, misfit, Outcome, settle}
 use Rattle.rules.specs.Signature.{misfitImage, certified}
-use Rattle.rules.specs.Tables.{typeD, code, tableBlocks, Form, level, covered, alignment, words, mapping, read, write, execute, allows}
+use Rattle.rules.specs.Tables.{typeD, typeCode, tableBlocks, Form, level, covered, words, mapping, read, write, execute, allows}
 use Rattle.rules.specs.General.{tableOutside, misaligned, beyondTable, otherType, holder, executableHolder, someOverrun, occupied, entered, added}
 
 -- "9 if rights exceed 7, or hold write or execute without read"
@@ -19,7 +18,7 @@ unfoldable pub unfitTarget : Form → Store → ℕ → ℕ → ℕ → ℕ → 
 unfitTarget f s p i t r =
     outside (base s) (blocks s) t (covered f)
     || allows r write && someBlock t (covered f) (λ b. neqb (typeOf s b) typeD)
-    || allows r execute && leb t (holder p i) && ltb (holder p i) (t + covered f)
+    || allows r execute && among t (covered f) (holder p i)
 
 -- "11 if both write and execute, or write onto x above 0, or execute onto w above 0"
 unfoldable pub clashingTarget : Form → Store → ℕ → ℕ → Bool
@@ -39,9 +38,9 @@ mapRefusals f golden s p i t r =
     ∷ 1 if misfitImage golden
     ∷ 2 if tableOutside (level f) s p
     ∷ 3 if misaligned p (tableBlocks (level f))
-    ∷ 3 if misaligned t (alignment f)
+    ∷ 3 if misaligned t (covered f)
     ∷ 4 if beyondTable (level f) i
-    ∷ 5 if otherType (level f) s p (code (level f))
+    ∷ 5 if otherType (level f) s p (typeCode (level f))
     ∷ 7 if executableHolder s p i
     ∷ 8 if occupied (level f) s p i (words f)
     ∷ 9 if unlawfulRights r

@@ -9,7 +9,7 @@ use lib.ListN.{getD, getElem?}
 use Rattle.entries.specs.Entries.{page, Level, l1, l2, entryAt}
 use Rattle.rules.specs.Store.{blockBytes, blockWords, Store, blocks, writable, executable}
 use Rattle.rules.specs.Signature.{misfitImage, contents, certified}
-use Rattle.rules.specs.Tables.{code, tableBlocks, entries, Form, pages, Right, write, execute, allows}
+use Rattle.rules.specs.Tables.{typeCode, tableBlocks, entries, Form, pages, Right, write, execute, allows}
 use Rattle.rules.specs.Begin.{beginOutcome}
 use Rattle.rules.specs.Switch.{switchOutcome}
 use Rattle.rules.specs.Guest.{ends, walk, Access, fetches}
@@ -21,7 +21,7 @@ pub record Root (B n : ℕ) (types : ℕ → ℕ) (p : ℕ) : Type 0 where
   pub low : B ≤ p
   pub high : p + tableBlocks l1 ≤ B + n
   pub aligned : p % tableBlocks l1 ≡ 0
-  pub typed : (i : ℕ) → i < tableBlocks l1 → types (p + i) ≡ code l1
+  pub typed : (i : ℕ) → i < tableBlocks l1 → types (p + i) ≡ typeCode l1
 
 -- a table to which the hardware can be switched: "the hypervisor allows to select only these memory areas to be used as page tables by the MMU" (section 2.1)
 abbrev pub Switchable : Told → Store → ℕ → Type 0
@@ -87,7 +87,7 @@ pub record FetchedCode (h : Told) (s : Store) (addr byte : ℕ) : Type 0 where
 -- executable), and none makes block p executable: "ρex(bl) = 0" (table 2)
 pub record WritableByOneEntry (h : Told) (s : Store) (p i t : ℕ) : Type 0 where
   pub inside : (h .B ≤ p) × (p < h .B + blocks s)
-  pub table : h .types p ≡ code l2
+  pub table : h .types p ≡ typeCode l2
   pub index : i < entries l2
   pub entry : entryAt l2 (s .memory) (blockWords * (p - h .B) + i) ≡ page t 3
   pub alone : counted h s writable (t - h .B) ≡ 1
@@ -140,5 +140,5 @@ module _ (golden : List ℕ) (B : ℕ) (s : Store) (steps : List Step) where
 -- every list that starts from what an accepted begin leaves, as in demand 3
 abbrev pub Policies-hold : Type 0
 Policies-hold =
-    (golden : List ℕ) (lent : Store) (B : ℕ) → beginOutcome lent B .answer ≡ 0
-    → (steps : List Step) → Policies golden B (beginOutcome lent B .after) steps
+    (golden : List ℕ) (start : Store) (B : ℕ) → beginOutcome start B .answer ≡ 0
+    → (steps : List Step) → Policies golden B (beginOutcome start B .after) steps

@@ -8,7 +8,7 @@ infix 68 _if_
 pub data Refusal : Type 0 where
   _if_ : ℕ → Bool → Refusal
 
--- "Answer 0 is accepted. A refusal is the lowest number that applies": the lists below are in the paper's order
+-- "Answer 0 is accepted. A refusal is the lowest number that applies": a call's list is in the order of its numbers
 unfoldable pub answerOf : List Refusal → ℕ
 answerOf [] = 0
 answerOf (k if true ∷ rs) = k

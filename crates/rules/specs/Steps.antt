@@ -1,12 +1,12 @@
 -- Lists of steps, and what the steps and their answers tell ("Lists of steps").
-use mathlib.Core.Bool.{cond, _&&_}
+use mathlib.Core.Bool.{cond}
 use mathlib.Core.List.{List, [], _∷_}
 use mathlib.Core.Option.{Option, none, some}
 use Prim.Native.Nat.{ℕ, zero, suc, _+_, _*_, _/_}
-use lib.Dec.{leb, ltb}
+use Rattle.words.specs.Bounded.{among}
 use Rattle.entries.specs.Entries.{Level}
 use Rattle.rules.specs.Store.{blockWords, Store, Counter, Outcome}
-use Rattle.rules.specs.Tables.{typeD, code, tableBlocks, Form, typedEntry, gain}
+use Rattle.rules.specs.Tables.{typeD, typeCode, tableBlocks, Form, typedEntry, gain}
 use Rattle.rules.specs.Begin.{beginOutcome}
 use Rattle.rules.specs.Create.{createOutcome}
 use Rattle.rules.specs.Free.{freeOutcome}
@@ -16,20 +16,16 @@ use Rattle.rules.specs.Unmap.{unmapOutcome}
 use Rattle.rules.specs.Switch.{switchOutcome}
 use Rattle.rules.specs.Guest.{Access, guestOutcome}
 
--- the calls with their arguments
-pub data Call : Type 0 where
-  begins : ℕ → Call
-  creates : Level → ℕ → Call
-  frees : Level → ℕ → Call
-  maps : Form → ℕ → ℕ → ℕ → ℕ → Call
-  links : ℕ → ℕ → ℕ → ℕ → Call
-  unmaps : Form → ℕ → ℕ → Call
-  switches : ℕ → Call
-  accesses : Access → ℕ → Call
-
 -- "A step is one of the calls above, begin included, accepted or refused, with any arguments"
-abbrev pub Step : Type 0
-Step = Call
+pub data Step : Type 0 where
+  begins : ℕ → Step
+  creates : Level → ℕ → Step
+  frees : Level → ℕ → Step
+  maps : Form → ℕ → ℕ → ℕ → ℕ → Step
+  links : ℕ → ℕ → ℕ → ℕ → Step
+  unmaps : Form → ℕ → ℕ → Step
+  switches : ℕ → Step
+  accesses : Access → ℕ → Step
 
 -- one step, lent a golden image and a store
 unfoldable pub obey : List ℕ → Store → Step → Outcome
@@ -70,29 +66,29 @@ begun B golden = record { B = B; types = λ b. typeD; table = none; golden = gol
 
 -- the m blocks from p on have type t, the others their types
 unfoldable pub typed : (ℕ → ℕ) → ℕ → ℕ → ℕ → ℕ → ℕ
-typed types p m t b = cond (leb p b && ltb b (p + m)) t (types b)
+typed types p m t b = cond (among p m b) t (types b)
 
 -- "An accepted create L1 adds its four blocks as L1, an accepted create L2 its block as L2, and an accepted free takes away what it names"
-unfoldable pub told : Told → Step → Told
-told h (begins B) = begun B (h .golden)
-told h (creates v p) = record { B = h .B; types = typed (h .types) p (tableBlocks v) (code v); table = h .table; golden = h .golden }
-told h (frees v p) = record { B = h .B; types = typed (h .types) p (tableBlocks v) typeD; table = h .table; golden = h .golden }
-told h (maps f p i t r) = h
-told h (links p i t j) = h
-told h (unmaps f p i) = h
-told h (switches p) = record { B = h .B; types = h .types; table = some p; golden = h .golden }
-told h (accesses a addr) = h
+unfoldable pub afterAccepted : Told → Step → Told
+afterAccepted h (begins B) = begun B (h .golden)
+afterAccepted h (creates v p) = record { B = h .B; types = typed (h .types) p (tableBlocks v) (typeCode v); table = h .table; golden = h .golden }
+afterAccepted h (frees v p) = record { B = h .B; types = typed (h .types) p (tableBlocks v) typeD; table = h .table; golden = h .golden }
+afterAccepted h (maps f p i t r) = h
+afterAccepted h (links p i t j) = h
+afterAccepted h (unmaps f p i) = h
+afterAccepted h (switches p) = record { B = h .B; types = h .types; table = some p; golden = h .golden }
+afterAccepted h (accesses a addr) = h
 
 -- a step tells something if it is accepted
-unfoldable pub heard : ℕ → Told → Step → Told
-heard zero h step = told h step
-heard (suc k) h step = h
+unfoldable pub afterAnswer : ℕ → Told → Step → Told
+afterAnswer zero h step = afterAccepted h step
+afterAnswer (suc k) h step = h
 
 -- what the steps of a list tell, with their answers
 unfoldable pub history : Told → List Step → List ℕ → Told
 history h [] answers = h
 history h (step ∷ steps) [] = h
-history h (step ∷ steps) (k ∷ answers) = history (heard k h step) steps answers
+history h (step ∷ steps) (k ∷ answers) = history (afterAnswer k h step) steps answers
 
 -- "Reading the tables afresh: .. counted .. over every word that the memory now holds in the tables, with these tables as the typed blocks"
 unfoldable pub afresh : Told → ℕ → List ℕ → Counter → ℕ → ℕ

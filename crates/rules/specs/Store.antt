@@ -11,11 +11,11 @@ pub use Rattle.signature.specs.Signed.{blockBytes}
 abbrev pub blockWords : ℕ
 blockWords = 1024
 
-abbrev pub least : ℕ
-least = 8
+abbrev pub leastBlocks : ℕ
+leastBlocks = 8
 
-abbrev pub most : ℕ
-most = 4096
+abbrev pub mostBlocks : ℕ
+mostBlocks = 4096
 
 -- "B is its first physical block number, a multiple of 256, with B + n at most 2^20"
 abbrev pub baseAlignment : ℕ
@@ -25,19 +25,19 @@ abbrev pub physicalBlocks : ℕ
 physicalBlocks = 2 ^ 20
 
 -- "The ledger is 8 + 16 × n bytes": the bytes before the records, and the bytes of a record
-abbrev pub head : ℕ
-head = 8
+abbrev pub ledgerHeadBytes : ℕ
+ledgerHeadBytes = 8
 
-abbrev pub width : ℕ
-width = 16
+abbrev pub ledgerRecordBytes : ℕ
+ledgerRecordBytes = 16
 
 -- "FFFFFFFF hexadecimal for none"
 abbrev pub noTable : ℕ
 noTable = 0xFFFFFFFF
 
 -- "13: a counter that the call alters would end below 0 or above 2^22"
-abbrev pub limit : ℕ
-limit = 2 ^ 22
+abbrev pub counterLimit : ℕ
+counterLimit = 2 ^ 22
 
 -- what a call is lent
 pub record Store : Type 0 where
@@ -67,25 +67,25 @@ active s = word (s .ledger) activePlace
 
 -- "then per block four words": word k of the record of block b, b counted from the region's first
 unfoldable pub recordWord : List ℕ → ℕ → ℕ → ℕ
-recordWord ledger k b = word ledger (head + width * b + 4 * k)
+recordWord ledger k b = word ledger (ledgerHeadBytes + ledgerRecordBytes * b + 4 * k)
 
 -- and v stored there
 unfoldable pub putRecordWord : List ℕ → ℕ → ℕ → ℕ → List ℕ
-putRecordWord ledger k b v = putWord ledger (head + width * b + 4 * k) v
+putRecordWord ledger k b v = putWord ledger (ledgerHeadBytes + ledgerRecordBytes * b + 4 * k) v
 
 -- "type (0 = D data, 1 = L1, 2 = L2), w, x, l": the places of a record's words; w counts the entries that make a block writable
-abbrev pub typePlace : ℕ
-typePlace = 0
+abbrev pub typeWord : ℕ
+typeWord = 0
 
 pub data Counter : Type 0 where
   writable : Counter
   executable : Counter
   linked : Counter
 
-abbrev pub counterPlace : Counter → ℕ
-counterPlace writable = 1
-counterPlace executable = 2
-counterPlace linked = 3
+abbrev pub counterWord : Counter → ℕ
+counterWord writable = 1
+counterWord executable = 2
+counterWord linked = 3
 
 -- some counter has q
 unfoldable pub someCounter : (Counter → Bool) → Bool
@@ -93,20 +93,20 @@ someCounter q = q writable || q executable || q linked
 
 -- type and counters of a physical block
 abbrev pub typeOf : Store → ℕ → ℕ
-typeOf s p = recordWord (s .ledger) typePlace (p - base s)
+typeOf s p = recordWord (s .ledger) typeWord (p - base s)
 
 abbrev pub counter : Counter → Store → ℕ → ℕ
-counter c s p = recordWord (s .ledger) (counterPlace c) (p - base s)
+counter c s p = recordWord (s .ledger) (counterWord c) (p - base s)
 
 -- the types of the m blocks from b on become t
 unfoldable pub retype : List ℕ → ℕ → ℕ → ℕ → List ℕ
 retype ledger b zero t = ledger
-retype ledger b (suc m) t = putRecordWord (retype ledger b m t) typePlace (b + m) t
+retype ledger b (suc m) t = putRecordWord (retype ledger b m t) typeWord (b + m) t
 
 -- the counters of block b become f
 abbrev pub putCounters : List ℕ → ℕ → (Counter → ℕ) → List ℕ
 putCounters ledger b f =
-    putRecordWord (putRecordWord (putRecordWord ledger (counterPlace writable) b (f writable)) (counterPlace executable) b (f executable)) (counterPlace linked) b (f linked)
+    putRecordWord (putRecordWord (putRecordWord ledger (counterWord writable) b (f writable)) (counterWord executable) b (f executable)) (counterWord linked) b (f linked)
 
 -- the counters of the first n blocks become f
 unfoldable pub recount : List ℕ → ℕ → (Counter → ℕ → ℕ) → List ℕ
@@ -133,8 +133,8 @@ someRegionBlock s q = someBlock (base s) (blocks s) q
 -- "1: a length or stored B breaks the rules above" (begin looks at the B given)
 unfoldable pub misfit : Store → ℕ → Bool
 misfit s B =
-    neqb (length (s .memory) % blockBytes) 0 || above least (blocks s) || above (blocks s) most
-    || neqb (length (s .ledger)) (head + width * blocks s)
+    neqb (length (s .memory) % blockBytes) 0 || above leastBlocks (blocks s) || above (blocks s) mostBlocks
+    || neqb (length (s .ledger)) (ledgerHeadBytes + ledgerRecordBytes * blocks s)
     || neqb (B % baseAlignment) 0 || above (B + blocks s) physicalBlocks
 
 -- a call's answer, the store afterwards, and the byte that is given

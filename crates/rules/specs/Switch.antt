@@ -5,7 +5,7 @@ use Rattle.words.specs.Words.{putWord}
 use Rattle.entries.specs.Entries.{l1}
 use Rattle.rules.specs.Refusals.{Refusal, _if_, answerOf}
 use Rattle.rules.specs.Store.{Store, activePlace, base, misfit, Outcome, settle}
-use Rattle.rules.specs.Tables.{code, tableBlocks}
+use Rattle.rules.specs.Tables.{typeCode, tableBlocks}
 use Rattle.rules.specs.General.{tableOutside, misaligned, otherType}
 
 -- "1; 2; 3; 5"
@@ -14,7 +14,7 @@ switchRefusals s p =
     1 if misfit s (base s)
     ∷ 2 if tableOutside l1 s p
     ∷ 3 if misaligned p (tableBlocks l1)
-    ∷ 5 if otherType l1 s p (code l1)
+    ∷ 5 if otherType l1 s p (typeCode l1)
     ∷ []
 
 -- "Active becomes that block number"

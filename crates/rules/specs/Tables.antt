@@ -5,16 +5,16 @@ use Prim.Native.Nat.{ℕ, _+_, _-_, _*_}
 use lib.Dec.{eqb}
 use Rattle.words.specs.Bounded.{above, count}
 use Rattle.words.specs.Words.{bits}
-use Rattle.entries.specs.Entries.{Entry, fault, section, page, Level, l1, l2, entryAt, isLink, rights, first, size, covers}
+use Rattle.entries.specs.Entries.{Entry, fault, section, page, Level, l1, l2, sectionBlocks, entryAt, isLink, rights, first, size, covers}
 use Rattle.rules.specs.Store.{blockWords, Store, base, Counter, writable, executable, linked, outside}
 
 -- "type (0 = D data, 1 = L1, 2 = L2)"
 abbrev pub typeD : ℕ
 typeD = 0
 
-abbrev pub code : Level → ℕ
-code l1 = 1
-code l2 = 2
+abbrev pub typeCode : Level → ℕ
+typeCode l1 = 1
+typeCode l2 = 2
 
 -- "An L1 table is four blocks, the first a multiple of 4"; an L2 block is one
 abbrev pub tableBlocks : Level → ℕ
@@ -25,10 +25,7 @@ tableBlocks l2 = 1
 abbrev pub entries : Level → ℕ
 entries v = blockWords * tableBlocks v
 
--- "An L2 block holds four L2 tables of 256 words"
-abbrev pub blockTables : ℕ
-blockTables = 4
-
+-- "four L2 tables of 256 words"
 abbrev pub l2Words : ℕ
 l2Words = 256
 
@@ -42,14 +39,10 @@ abbrev pub level : Form → Level
 level sections = l1
 level pages = l2
 
--- "counts once on each of its 256 blocks": the blocks of a target
+-- "counts once on each of its 256 blocks", "section target not a multiple of 256": the blocks of a target, and its alignment
 abbrev pub covered : Form → ℕ
-covered sections = 256
+covered sections = sectionBlocks
 covered pages = 1
-
--- "section target not a multiple of 256"
-abbrev pub alignment : Form → ℕ
-alignment f = covered f
 
 -- the words of a table that a mapping takes
 abbrev pub words : Form → ℕ
@@ -63,7 +56,7 @@ mapping pages t r = page t r
 
 -- word j of the memory as an entry of a block of this type: "All entries of blocks typed L1 or L2 are counted", no others
 unfoldable pub typedEntry : ℕ → List ℕ → ℕ → Entry
-typedEntry t memory j = cond (eqb t (code l1)) (entryAt l1 memory j) (cond (eqb t (code l2)) (entryAt l2 memory j) fault)
+typedEntry t memory j = cond (eqb t (typeCode l1)) (entryAt l1 memory j) (cond (eqb t (typeCode l2)) (entryAt l2 memory j) fault)
 
 -- the word in which entry i of the table at physical block p stands, and the entry
 abbrev pub wordIndex : Store → ℕ → ℕ → ℕ

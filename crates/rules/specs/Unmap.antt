@@ -6,7 +6,7 @@ use Rattle.entries.specs.Entries.{fault, isUnaccepted}
 use Rattle.entries.specs.Written.{wordOf, cacheable}
 use Rattle.rules.specs.Refusals.{Refusal, _if_, answerOf}
 use Rattle.rules.specs.Store.{Store, blocks, base, fill, misfit, Outcome, settle}
-use Rattle.rules.specs.Tables.{code, tableBlocks, Form, level, words, wordIndex, tableEntry, astray}
+use Rattle.rules.specs.Tables.{typeCode, tableBlocks, Form, level, words, wordIndex, tableEntry, astray}
 use Rattle.rules.specs.General.{tableOutside, misaligned, beyondTable, otherType, executableHolder, someOverrun, recounted, removed}
 
 -- "1; 2; 3 (L1); 4; 5; 7; 8 and 10 as in free, for this entry alone; 13"
@@ -16,7 +16,7 @@ unmapRefusals f s p i =
     ∷ 2 if tableOutside (level f) s p
     ∷ 3 if misaligned p (tableBlocks (level f))
     ∷ 4 if beyondTable (level f) i
-    ∷ 5 if otherType (level f) s p (code (level f))
+    ∷ 5 if otherType (level f) s p (typeCode (level f))
     ∷ 7 if executableHolder s p i
     ∷ 8 if any (words f) (λ k. isUnaccepted (tableEntry (level f) s p (i + k)))
     ∷ 10 if any (words f) (λ k. astray (base s) (blocks s) (tableEntry (level f) s p (i + k)))

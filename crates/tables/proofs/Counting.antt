@@ -13,7 +13,7 @@ use Rattle.words.specs.Bounded.{above, any, sum, num}
 use Rattle.words.proofs.Bounded.{both-ways, or-right, and-both, any-hit, any-found, or-cases, or-false-left, or-false-right, and-true, and-true-left, and-false-right, below-or-above}
 use Rattle.words.proofs.Words.{Bytes}
 use Rattle.entries.specs.Entries.{Entry, first, size}
-use Rattle.rules.specs.Store.{head, width, limit, basePlace, Store, lent, blocks, base, recordWord, Counter, counterPlace, someCounter, counter, someBlock, someRegionBlock, misfit}
+use Rattle.rules.specs.Store.{ledgerHeadBytes, ledgerRecordBytes, counterLimit, basePlace, Store, lent, blocks, base, recordWord, Counter, counterWord, someCounter, counter, someBlock, someRegionBlock, misfit}
 use Rattle.rules.specs.Tables.{grants, gives, gain, astray}
 use Rattle.rules.specs.General.{Change, added, removed, endValue, endsBelow, overruns, someOverrun, recounted}
 use Rattle.rules.proofs.Gains.{gives-within, gives-at, gain-more, gain-hit, gain-none, gain-found}
@@ -37,22 +37,22 @@ storable-end removed old k small r = omega arith
 
 room-more : (d : Change) (old k : ℕ) → Room d old k → beyond (leastOf d) (mostOf d) (endValue d old k) ≡ false → Room d old (k + 1)
 unfolding endValue
-room-more added old k r t = λ _. omega (arith, ltb-false (limit - 1) (old + k) (or-false-right (above 0 (old + k)) (above (old + k) (limit - 1)) t))
+room-more added old k r t = λ _. omega (arith, ltb-false (counterLimit - 1) (old + k) (or-false-right (above 0 (old + k)) (above (old + k) (counterLimit - 1)) t))
 room-more removed old k r t = omega (arith, ltb-false (old - k) 1 (or-false-left (above 1 (old - k)) (above (old - k) (2 ^ 32 - 1)) t))
 
 room-stuck : (d : Change) (old k : ℕ) → old < 2 ^ 32 → Room d old k → beyond (leastOf d) (mostOf d) (endValue d old k) ≡ true → (j : ℕ) → k < j → overruns d old j ≡ true
 unfolding endValue endsBelow overruns
 room-stuck added old k small r t j l =
     ⊎-elim (λ h. let z = ltb-true (old + k) 0 h in let f : ⊥ = omega arith in absurd f)
-    (λ h. let over = ltb-true (limit - 1) (old + k) h in rw (lt-ltb 0 j (omega arith), lt-ltb limit (old + j) (omega arith)) refl)
-    (or-cases (above 0 (old + k)) (above (old + k) (limit - 1)) t)
+    (λ h. let over = ltb-true (counterLimit - 1) (old + k) h in rw (lt-ltb 0 j (omega arith), lt-ltb counterLimit (old + j) (omega arith)) refl)
+    (or-cases (above 0 (old + k)) (above (old + k) (counterLimit - 1)) t)
 room-stuck removed old k small r t j l =
     ⊎-elim (λ h. let under = ltb-true (old - k) 1 h in rw (lt-ltb 0 j (omega arith), lt-ltb old j (omega arith)) refl)
     (λ h. let z = ltb-true (2 ^ 32 - 1) (old - k) h in let f : ⊥ = omega arith in absurd f)
     (or-cases (above 1 (old - k)) (above (old - k) (2 ^ 32 - 1)) t)
 
 -- at the end only the limit is left to judge
-room-overruns : (d : Change) (old k : ℕ) → Room d old k → overruns d old k ≡ (above k 0 && above (endValue d old k) limit)
+room-overruns : (d : Change) (old k : ℕ) → Room d old k → overruns d old k ≡ (above k 0 && above (endValue d old k) counterLimit)
 unfolding endValue endsBelow overruns
 room-overruns added old k r = refl
 room-overruns removed old k r = rw (le-ltb old k r) refl
@@ -114,12 +114,12 @@ module _ (s : Store) (q : ℕ → Bool) where
 
 -- The ledger when i entries are counted
 
-module _ (d : Change) (s : Store) (e : ℕ → Entry) (length-is : length (s .ledger) ≡ head + width * blocks s) (bytes : Bytes (s .ledger)) where
+module _ (d : Change) (s : Store) (e : ℕ → Entry) (length-is : length (s .ledger) ≡ ledgerHeadBytes + ledgerRecordBytes * blocks s) (bytes : Bytes (s .ledger)) where
   abbrev pub counted : ℕ → Store
   counted i = lent (s .memory) (recounted d s i e)
 
-  small : (c : Counter) (b : ℕ) → recordWord (s .ledger) (counterPlace c) b < 2 ^ 32
-  small c b = recordWord-bound (s .ledger) (counterPlace c) b bytes
+  small : (c : Counter) (b : ℕ) → recordWord (s .ledger) (counterWord c) b < 2 ^ 32
+  small c b = recordWord-bound (s .ledger) (counterWord c) b bytes
 
   pub roomy-storable : (i : ℕ) → Roomy d s i e → AllStorable d s i e
   roomy-storable i r c b l = room-storable d _ (gain i e c (base s + b)) (small c b) (r c b l)
@@ -127,7 +127,7 @@ module _ (d : Change) (s : Store) (e : ℕ → Entry) (length-is : length (s .le
   pub base-counted : (i : ℕ) → base (counted i) ≡ base s
   base-counted i = head-recounted d s i e basePlace (omega arith)
 
-  record-counted : (i : ℕ) → AllStorable d s i e → (c : Counter) (b : ℕ) → b < blocks s → recordWord (recounted d s i e) (counterPlace c) b ≡ end d s i e c b
+  record-counted : (i : ℕ) → AllStorable d s i e → (c : Counter) (b : ℕ) → b < blocks s → recordWord (recounted d s i e) (counterWord c) b ≡ end d s i e c b
   record-counted i st c b l = counter-recounted d s i e length-is c b l (storable-end d _ (gain i e c (base s + b)) (small c b) (st c b l))
 
   counter-counted : (i : ℕ) → AllStorable d s i e → (c : Counter) (b : ℕ) → b < blocks s → counter c (counted i) (base s + b) ≡ end d s i e c b
@@ -137,7 +137,7 @@ module _ (d : Change) (s : Store) (e : ℕ → Entry) (length-is : length (s .le
   pub roomy-more : (i : ℕ) → Roomy d s i e → entryBeyond (leastOf d) (mostOf d) (counted i) (e i) ≡ false → Roomy d s (i + 1) e
   unfolding entryBeyond counterBeyond
   roomy-more i r t c b l = go (gives c (e i) (base s + b)) refl where
-    go : (g : Bool) → gives c (e i) (base s + b) ≡ g → Room d (recordWord (s .ledger) (counterPlace c) b) (gain (i + 1) e c (base s + b))
+    go : (g : Bool) → gives c (e i) (base s + b) ≡ g → Room d (recordWord (s .ledger) (counterWord c) b) (gain (i + 1) e c (base s + b))
     go false g = rw (gain-spared e c (base s + b) i g) (r c b l)
     go true g =
         let q : ℕ → Bool = λ p. beyond (leastOf d) (mostOf d) (counter c (counted i) p) in
@@ -146,7 +146,7 @@ module _ (d : Change) (s : Store) (e : ℕ → Entry) (length-is : length (s .le
 
   module _ (m : ℕ) (inside : (i : ℕ) → i < m → astray (base s) (blocks s) (e i) ≡ false) where
     -- counter c of block b overruns when all m entries are counted
-    overrun-at : (c : Counter) (b : ℕ) → b < blocks s → overruns d (recordWord (s .ledger) (counterPlace c) b) (gain m e c (base s + b)) ≡ true → someOverrun d s m e ≡ true
+    overrun-at : (c : Counter) (b : ℕ) → b < blocks s → overruns d (recordWord (s .ledger) (counterWord c) b) (gain m e c (base s + b)) ≡ true → someOverrun d s m e ≡ true
     unfolding someOverrun
     overrun-at c b l o =
         region-hit s (λ b. someCounter (λ c. overruns d (counter c s b) (gain m e c b))) b l
@@ -180,25 +180,25 @@ module _ (d : Change) (s : Store) (e : ℕ → Entry) (length-is : length (s .le
         overrun-at c b n (room-stuck d _ (gain i e c (base s + b)) (small c b) (r c b n) u (gain m e c (base s + b)) (omega arith))
 
     -- or all can, and a counter ends above the limit
-    pub end-overruns : Roomy d s m e → someOverrun d s m e ≡ any m (λ i. entryBeyond 0 limit (counted m) (e i))
+    pub end-overruns : Roomy d s m e → someOverrun d s m e ≡ any m (λ i. entryBeyond 0 counterLimit (counted m) (e i))
     unfolding someOverrun
-    end-overruns r = both-ways (someOverrun d s m e) (any m (λ i. entryBeyond 0 limit (counted m) (e i))) there back where
-      there : someOverrun d s m e ≡ true → any m (λ i. entryBeyond 0 limit (counted m) (e i)) ≡ true
+    end-overruns r = both-ways (someOverrun d s m e) (any m (λ i. entryBeyond 0 counterLimit (counted m) (e i))) there back where
+      there : someOverrun d s m e ≡ true → any m (λ i. entryBeyond 0 counterLimit (counted m) (e i)) ≡ true
       there h =
           let (b, n, t) = region-found s (λ b. someCounter (λ c. overruns d (counter c s b) (gain m e c b))) h in
           let (c, o) = some-counter-found (λ c. overruns d (counter c s (base s + b)) (gain m e c (base s + b))) t in
-          let (some, over) = and-true (above (gain m e c (base s + b)) 0) (above (end d s m e c b) limit) (rw (counter-at c s b, room-overruns d _ (gain m e c (base s + b)) (r c b n)) at o) in
+          let (some, over) = and-true (above (gain m e c (base s + b)) 0) (above (end d s m e c b) counterLimit) (rw (counter-at c s b, room-overruns d _ (gain m e c (base s + b)) (r c b n)) at o) in
           let (i, l, g) = gain-found m e c (base s + b) (ltb-true 0 (gain m e c (base s + b)) some) in
-          any-hit (λ i. entryBeyond 0 limit (counted m) (e i)) m i l
-          (beyond-hit m i 0 limit (roomy-storable m r) c b n g (or-right (above 0 (end d s m e c b)) (above (end d s m e c b) limit) over))
+          any-hit (λ i. entryBeyond 0 counterLimit (counted m) (e i)) m i l
+          (beyond-hit m i 0 counterLimit (roomy-storable m r) c b n g (or-right (above 0 (end d s m e c b)) (above (end d s m e c b) counterLimit) over))
 
-      back : any m (λ i. entryBeyond 0 limit (counted m) (e i)) ≡ true → someOverrun d s m e ≡ true
+      back : any m (λ i. entryBeyond 0 counterLimit (counted m) (e i)) ≡ true → someOverrun d s m e ≡ true
       back h =
-          let (i, l, t) = any-found (λ i. entryBeyond 0 limit (counted m) (e i)) m h in
-          let (c, b, n, g, u) = beyond-found m i 0 limit l (roomy-storable m r) t in
+          let (i, l, t) = any-found (λ i. entryBeyond 0 counterLimit (counted m) (e i)) m h in
+          let (c, b, n, g, u) = beyond-found m i 0 counterLimit l (roomy-storable m r) t in
           let some = lt-ltb 0 (gain m e c (base s + b)) (gain-hit m e c (base s + b) i l g) in
-          let over = ⊎-elim (λ z. let under = ltb-true (end d s m e c b) 0 z in let f : ⊥ = omega arith in absurd f) (λ (o : above (end d s m e c b) limit ≡ true). o) (or-cases (above 0 (end d s m e c b)) (above (end d s m e c b) limit) u) in
-          overrun-at c b n (rw (room-overruns d _ (gain m e c (base s + b)) (r c b n)) (and-both (above (gain m e c (base s + b)) 0) (above (end d s m e c b) limit) some over))
+          let over = ⊎-elim (λ z. let under = ltb-true (end d s m e c b) 0 z in let f : ⊥ = omega arith in absurd f) (λ (o : above (end d s m e c b) counterLimit ≡ true). o) (or-cases (above 0 (end d s m e c b)) (above (end d s m e c b) counterLimit) u) in
+          overrun-at c b n (rw (room-overruns d _ (gain m e c (base s + b)) (r c b n)) (and-both (above (gain m e c (base s + b)) 0) (above (end d s m e c b) counterLimit) some over))
 
   -- what was counted can be taken back
   pub back-storable : (i : ℕ) → AllStorable d s i e → AllStorable (opposite d) (counted i) i e
@@ -212,7 +212,7 @@ module _ (d : Change) (s : Store) (e : ℕ → Entry) (length-is : length (s .le
       (λ a h. head-recounted (opposite d) (counted i) i e a h ∙ head-recounted d s i e a h)
       (λ b l. type-recounted (opposite d) (counted i) i e b ∙ type-recounted d s i e b)
       (λ c b l.
-      let is : end (opposite d) (counted i) i e c b ≡ recordWord (s .ledger) (counterPlace c) b = rw (base-counted i, record-counted i st c b l) (storable-back d _ (gain i e c (base s + b)) (small c b) (st c b l) .1) in
+      let is : end (opposite d) (counted i) i e c b ≡ recordWord (s .ledger) (counterWord c) b = rw (base-counted i, record-counted i st c b l) (storable-back d _ (gain i e c (base s + b)) (small c b) (st c b l) .1) in
       counter-recounted (opposite d) (counted i) i e (length-recounted d s i e ∙ length-is) c b l (rw is (small c b)) ∙ is)
 
 -- The turns of the loops that count
@@ -230,7 +230,7 @@ module _ (d : Change) (s : Store) (e : ℕ → Entry) where
   -- none is counted
   pub roomy-none : Roomy d s 0 e
   roomy-none c b l = rw (gain-none 0 e c (base s + b) (λ i h. let z : ⊥ = omega arith in absurd z)) (room-none d) where
-    room-none : (d : Change) → Room d (recordWord (s .ledger) (counterPlace c) b) 0
+    room-none : (d : Change) → Room d (recordWord (s .ledger) (counterWord c) b) 0
     room-none added = λ h. let z : ⊥ = omega arith in absurd z
     room-none removed = omega arith
 
@@ -246,7 +246,7 @@ module _ (d : Change) (s : Store) (e : ℕ → Entry) (m : ℕ) (fit : misfit s 
   step-fits = rw (at, is, length-recounted d s i e, head-recounted d s i e basePlace (omega arith)) (fit, placed i l)
 
   module _ (bytes : Bytes (s .ledger)) (st : AllStorable d s (i + 1) e) where
-    length-is : length (s .ledger) ≡ head + width * blocks s
+    length-is : length (s .ledger) ≡ ledgerHeadBytes + ledgerRecordBytes * blocks s
     length-is = fits s (base s) fit .ledger-length
 
     pub step-countable : (c : Counter) → Countable d led c en
@@ -260,13 +260,13 @@ module _ (d : Change) (s : Store) (e : ℕ → Entry) (m : ℕ) (fit : misfit s 
           (changeable-storable d _ (gain i e c (base s + b)) (rw (gain-given e c (base s + b) i given) at (st c b (omega arith))))
 
     pub step-counted : {led′ : List ℕ} → led′ ≡ recounted d (lent (s .memory) led) 1 (λ k. en) → led′ ≡ recounted d s (i + 1) e
-    step-counted q = rw (at, is) at q ∙ recounted-more d s length-is bytes e i (λ c b n. storable-end d _ (gain (i + 1) e c (base s + b)) (recordWord-bound (s .ledger) (counterPlace c) b bytes) (st c b n))
+    step-counted q = rw (at, is) at q ∙ recounted-more d s length-is bytes e i (λ c b n. storable-end d _ (gain (i + 1) e c (base s + b)) (recordWord-bound (s .ledger) (counterWord c) b bytes) (st c b n))
 
 -- What counting leaves
 
 module _ (d : Change) (s : Store) (e : ℕ → Entry) (m : ℕ) (fit : misfit s (base s) ≡ false) (placed : (i : ℕ) → i < m → astray (base s) (blocks s) (e i) ≡ false)
     (bytes : Bytes (s .ledger)) {r : ℕ} {led : List ℕ} (done : Counted d s m e r led) where
-  ledger-length : length (s .ledger) ≡ head + width * blocks s
+  ledger-length : length (s .ledger) ≡ ledgerHeadBytes + ledgerRecordBytes * blocks s
   ledger-length = fits s (base s) fit .ledger-length
 
   storable : AllStorable d s r e
@@ -285,7 +285,7 @@ module _ (d : Change) (s : Store) (e : ℕ → Entry) (m : ℕ) (fit : misfit s 
   stuck-overrun : r < m → someOverrun d s m e ≡ true
   stuck-overrun l = stuck-overruns d s e ledger-length bytes m placed r l (done .roomy) (done .stuck l)
 
-  end-overrun : r ≡ m → someOverrun d s m e ≡ any m (λ i. entryBeyond 0 limit (lent (s .memory) led) (e i))
+  end-overrun : r ≡ m → someOverrun d s m e ≡ any m (λ i. entryBeyond 0 counterLimit (lent (s .memory) led) (e i))
   end-overrun q = rw (done .ledger-is, q) (end-overruns d s e ledger-length bytes m placed (rw q at (done .roomy)))
 
   overrun-is : not (someOverrun d s m e) ≡ complete (lent (s .memory) led) m e r
@@ -297,7 +297,7 @@ module _ (d : Change) (s : Store) (e : ℕ → Entry) (m : ℕ) (fit : misfit s 
   pub counted-all : complete (lent (s .memory) led) m e r ≡ true → (true ≡ not (someOverrun d s m e)) × (led ≡ recounted d s m e)
   counted-all t =
       let most = done .at-most in
-      let least = leb-true m r (and-true-left (leb m r) (not (any m (λ i. entryBeyond 0 limit (lent (s .memory) led) (e i)))) t) in
+      let least = leb-true m r (and-true-left (leb m r) (not (any m (λ i. entryBeyond 0 counterLimit (lent (s .memory) led) (e i)))) t) in
       let all : r ≡ m = omega arith in
       (sym (overrun-is ∙ t), rw all at (done .ledger-is))
 

@@ -6,8 +6,8 @@ use Prim.Native.Nat.{ℕ, _+_, _-_, _^_, _<_, _≤_}
 use lib.Dec.{leb}
 use Rattle.words.specs.Bounded.{any}
 use Rattle.entries.specs.Entries.{Entry, Level}
-use Rattle.rules.specs.Store.{limit, Store, lent, blocks, base, recordWord, Counter, counterPlace, retype}
-use Rattle.rules.specs.Tables.{typeD, code, tableBlocks, entries, tableEntry, gain}
+use Rattle.rules.specs.Store.{counterLimit, Store, lent, blocks, base, recordWord, Counter, counterWord, retype}
+use Rattle.rules.specs.Tables.{typeD, typeCode, tableBlocks, entries, tableEntry, gain}
 use Rattle.rules.specs.General.{Change, added, removed, recounted}
 use Rattle.validation.specs.Bounds.{entryBeyond}
 
@@ -17,16 +17,16 @@ leastOf added = 0
 leastOf removed = 1
 
 abbrev pub mostOf : Change → ℕ
-mostOf added = limit - 1
+mostOf added = counterLimit - 1
 mostOf removed = 2 ^ 32 - 1
 
 -- no counter has overrun on the way
 abbrev pub Room : Change → ℕ → ℕ → Type 0
-Room added old k = 0 < k → old + k ≤ limit
+Room added old k = 0 < k → old + k ≤ counterLimit
 Room removed old k = k ≤ old
 
 abbrev pub Roomy : Change → Store → ℕ → (ℕ → Entry) → Type 0
-Roomy d s i e = (c : Counter) (b : ℕ) → b < blocks s → Room d (recordWord (s .ledger) (counterPlace c) b) (gain i e c (base s + b))
+Roomy d s i e = (c : Counter) (b : ℕ) → b < blocks s → Room d (recordWord (s .ledger) (counterWord c) b) (gain i e c (base s + b))
 
 -- counters can be changed by k and stored
 abbrev pub Storable : Change → ℕ → ℕ → Type 0
@@ -34,7 +34,7 @@ Storable added old k = old + k < 2 ^ 32
 Storable removed old k = k ≤ old
 
 abbrev pub AllStorable : Change → Store → ℕ → (ℕ → Entry) → Type 0
-AllStorable d s i e = (c : Counter) (b : ℕ) → b < blocks s → Storable d (recordWord (s .ledger) (counterPlace c) b) (gain i e c (base s + b))
+AllStorable d s i e = (c : Counter) (b : ℕ) → b < blocks s → Storable d (recordWord (s .ledger) (counterWord c) b) (gain i e c (base s + b))
 
 -- taking back
 abbrev pub opposite : Change → Change
@@ -50,11 +50,11 @@ pub record Counted (d : Change) (s : Store) (m : ℕ) (e : ℕ → Entry) (r : �
 
 -- all m entries are counted, and no counter by which they count is above the limit
 abbrev pub complete : Store → ℕ → (ℕ → Entry) → ℕ → Bool
-complete s m e r = leb m r && not (any m (λ i. entryBeyond 0 limit s (e i)))
+complete s m e r = leb m r && not (any m (λ i. entryBeyond 0 counterLimit s (e i)))
 
 -- the type of a table's blocks when its entries have been added, or removed
 abbrev pub typeAfter : Change → Level → ℕ
-typeAfter added v = code v
+typeAfter added v = typeCode v
 typeAfter removed v = typeD
 
 -- "Types and counters change": the ledger when the table at block p has been created, or freed

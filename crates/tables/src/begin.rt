@@ -16,13 +16,13 @@ ghost use mathlib.Core.Path.{_≡_};
 ghost use Prim.Native.Nat.{_+_};
 ghost use Rattle.ledger.specs.Records.{InLedger};
 ghost use Rattle.rules.specs.Begin.{beginOutcome};
-ghost use Rattle.rules.specs.Store.{lent, putCounters, putRecordWord, recount, retype, typePlace};
+ghost use Rattle.rules.specs.Store.{lent, putCounters, putRecordWord, recount, retype, typeWord};
 ghost use Rattle.rules.specs.Tables.{typeD};
 
 // The record of block b has type D and no counts.
 fn clear_record(ledger: &mut [u8], b: usize)
     requires { ⌜ InLedger (now ledger) (b + 1) ⌝ }
-    ensures { λ r. ⌜ now (ledger .exit) ≡ putCounters (putRecordWord (now (ledger .entry)) typePlace b typeD) b (λ c. 0) ⌝ }
+    ensures { λ r. ⌜ now (ledger .exit) ≡ putCounters (putRecordWord (now (ledger .entry)) typeWord b typeD) b (λ c. 0) ⌝ }
 {
     put_record_word(ledger, TYPE, b, TYPE_D);
     put_record_word(ledger, WRITABLE, b, 0);

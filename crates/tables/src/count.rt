@@ -1,8 +1,8 @@
 // The entries of a table are added to the counters, or taken away from them, one by one.
 // Refusal 13 shows on the way or at the end, and what was counted is then taken back.
-use crate::own::first_record;
 use crate::own::first_word;
 use crate::own::put_types;
+use crate::own::table_record;
 use entries::decode::entry_at;
 use entries::entry::Entry;
 use entries::entry::Level;
@@ -111,7 +111,7 @@ fn is_complete(level: Level, memory: &[u8], ledger: &[u8], j: usize, m: usize, d
 }
 
 // Counts the table's m entries, or leaves the ledger if a counter would overrun; true if they are counted.
-pub fn count_table(
+fn count_table(
     change: Change,
     level: Level,
     memory: &[u8],
@@ -155,7 +155,7 @@ pub fn turn_table(
     ensures { λ r. ⌜ now (ledger .exit) ≡ cond r (turned (changeOf change) (levelOf level) (lent (now (memory .entry)) (now (ledger .entry))) block) (now (ledger .entry)) ⌝ }
 {
     let j = first_word(level, memory, ledger, block);
-    let b = first_record(level, memory, ledger, block);
+    let b = table_record(level, memory, ledger, block);
     let m = table_entries(level) as usize;
     if !count_table(change, level, memory, ledger, j, m) {
         return false;

@@ -23,7 +23,7 @@ ghost use Rattle.rules.specs.Store.{base as storedBase};
 ghost use Rattle.ledger.specs.Lent.{Fits, TableInside};
 
 // The place of the table's first record.
-pub fn first_record(level: Level, memory: &[u8], ledger: &[u8], block: u32) -> usize
+pub fn table_record(level: Level, memory: &[u8], ledger: &[u8], block: u32) -> usize
     requires { ⌜ Fits (now memory) (now ledger) × TableInside (levelOf level) (now memory) (now ledger) block ⌝ }
     ensures { λ r. ⌜ (r ≡ block - storedBase (lent (now (memory .entry)) (now (ledger .entry)))) × (r < 2 ^ 20) ⌝ }
 {
@@ -35,7 +35,7 @@ pub fn first_word(level: Level, memory: &[u8], ledger: &[u8], block: u32) -> usi
     requires { ⌜ Fits (now memory) (now ledger) × TableInside (levelOf level) (now memory) (now ledger) block ⌝ }
     ensures { λ r. ⌜ r ≡ blockWords * (block - storedBase (lent (now (memory .entry)) (now (ledger .entry)))) ⌝ }
 {
-    BLOCK_WORDS as usize * first_record(level, memory, ledger, block)
+    BLOCK_WORDS as usize * table_record(level, memory, ledger, block)
 }
 
 // "6 if any counter of its blocks is above 0"

@@ -1,16 +1,16 @@
 -- Laws of entries' places: a block is given something exactly if it lies in the place of an entry that grants it.
-use mathlib.Core.Bool.{Bool, true, false, cond, _&&_, _||_, false≢true}
+use mathlib.Core.Bool.{Bool, true, false, cond, _||_, false≢true}
 use mathlib.Core.List.{List}
 use mathlib.Core.Logic.{⊎-elim}
 use mathlib.Core.Path.{_≡_, refl, _∙_, ap}
 use Prim.Native.Nat.{ℕ, _+_, _*_, _<_, _≤_}
 use native.Mathlib.Omega.{arith}
-use borrow.Author.Tests.{lt-ltb, le-leb, ltb-true, leb-true}
-use Rattle.words.specs.Bounded.{neqb}
-use lib.Dec.{eqb, leb, ltb}
+use borrow.Author.Tests.{lt-ltb, ltb-true}
+use Rattle.words.specs.Bounded.{neqb, among}
+use lib.Dec.{eqb, ltb}
 use Rattle.words.specs.Words.{bits, word}
 use Rattle.entries.specs.Rights.{rightsOf}
-use Rattle.words.proofs.Bounded.{both-ways, and-true, below-or-above, any-or}
+use Rattle.words.proofs.Bounded.{both-ways, and-true, below-or-above, any-or, among-in, among-within}
 use Rattle.entries.specs.Entries.{Entry, fault, unaccepted, link, section, page, Level, l1, l2, sectionAP, sectionXN, pageAP, pageXN, isLinkForm, isSectionForm, isPageForm, l1Entry, l2Entry, entryAt, rights, first, size}
 use Rattle.rules.specs.Store.{Store, typeOf, Counter, writable, executable, outside, someBlock}
 use Rattle.rules.specs.Tables.{typeD, tableBlocks, allows, grants, astray}
@@ -50,17 +50,15 @@ executes-size l2 memory j g = let w = word memory (4 * j) in of-form (eqb (bits 
   of-form false false f r h = absurd (false≢true h)
 
 -- a place meets the blocks of a table exactly if it has one of them
-pub meets-table : (f m p n : ℕ) → 0 < m → 0 < n → someBlock f m (λ b. leb p b && ltb b (p + n)) ≡ meeting f m p n
+pub meets-table : (f m p n : ℕ) → 0 < m → 0 < n → someBlock f m (among p n) ≡ meeting f m p n
 meets-table f m p n some-m some-n = both-ways (someBlock f m own) (meeting f m p n) there back where
   own : ℕ → Bool
-  own b = leb p b && ltb b (p + n)
+  own = among p n
 
   there : someBlock f m own ≡ true → meeting f m p n ≡ true
   there h =
       let (b, lo, hi, t) = some-block-found f m own h in
-      let (from, to) = and-true (leb p b) (ltb b (p + n)) t in
-      let from = leb-true p b from in
-      let to = ltb-true b (p + n) to in
+      let (from, to) = among-within p n b t in
       rw (lt-ltb f (p + n) (omega arith), lt-ltb p (f + m) (omega arith)) refl
 
   back : meeting f m p n ≡ true → someBlock f m own ≡ true
@@ -68,8 +66,8 @@ meets-table f m p n some-m some-n = both-ways (someBlock f m own) (meeting f m p
       let (under, over) = and-true (ltb f (p + n)) (ltb p (f + m)) h in
       let under = ltb-true f (p + n) under in
       let over = ltb-true p (f + m) over in
-      ⊎-elim (λ (l : f < p). some-block-hit f m own p (omega arith) over (rw (le-leb p p (omega arith), lt-ltb p (p + n) (omega arith)) refl))
-      (λ (l : p ≤ f). some-block-hit f m own f (omega arith) (omega arith) (rw (le-leb p f l, lt-ltb f (p + n) under) refl))
+      ⊎-elim (λ (l : f < p). some-block-hit f m own p (omega arith) over (among-in p n p (omega arith) (omega arith)))
+      (λ (l : p ≤ f). some-block-hit f m own f (omega arith) (omega arith) (among-in p n f l under))
       (below-or-above f p)
 
 some-block-or : (f m : ℕ) (q r : ℕ → Bool) → someBlock f m (λ b. q b || r b) ≡ (someBlock f m q || someBlock f m r)
@@ -82,7 +80,7 @@ pub unfit-write-is : (v : Level) (s : Store) (p : ℕ) (e : Entry) → grants wr
 unfolding unfitWrite
 unfit-write-is v s p e g =
     rw g
-    (some-block-or (first e) (size e) (λ b. neqb (typeOf s b) typeD) (λ b. leb p b && ltb b (p + tableBlocks v))
+    (some-block-or (first e) (size e) (λ b. neqb (typeOf s b) typeD) (λ b. among p (tableBlocks v) b)
     ∙ ap (λ (t : Bool). someBlock (first e) (size e) (λ b. neqb (typeOf s b) typeD) || t) (meets-table (first e) (size e) p (tableBlocks v) (grants-size writable e g) (some-blocks v))) where
       some-blocks : (v : Level) → 0 < tableBlocks v
       some-blocks l1 = omega arith

@@ -3,7 +3,7 @@ use entries::entry::Entry;
 use entries::entry::first;
 use entries::entry::size;
 use ledger::counters::Counter;
-use ledger::counters::place;
+use ledger::counters::counter_word;
 use ledger::layout::TYPE;
 use ledger::layout::base;
 use ledger::layout::record_word;
@@ -56,7 +56,7 @@ pub fn place_counts(memory: &[u8], ledger: &[u8], counter: Counter, e: Entry) ->
     ensures { λ r. ⌜ r ≡ someBlock (firstBlock (meaning e)) (blockCount (meaning e)) (λ b. above (counterAt (counterOf counter) (lent (now (memory .entry)) (now (ledger .entry))) b) 0) ⌝ }
 {
     let b = first_record(memory, ledger, e);
-    some_above_zero(ledger, place(counter), b, size(e) as usize)
+    some_above_zero(ledger, counter_word(counter), b, size(e) as usize)
 }
 
 // Word k is below least or above most in some of the m records from block b on.
@@ -91,7 +91,14 @@ pub fn place_beyond(
     ensures { λ r. ⌜ r ≡ someBlock (firstBlock (meaning e)) (blockCount (meaning e)) (λ b. beyond least most (counterAt (counterOf counter) (lent (now (memory .entry)) (now (ledger .entry))) b)) ⌝ }
 {
     let b = first_record(memory, ledger, e);
-    some_beyond(ledger, place(counter), b, size(e) as usize, least, most)
+    some_beyond(
+        ledger,
+        counter_word(counter),
+        b,
+        size(e) as usize,
+        least,
+        most,
+    )
 }
 
 // Some block is unsigned.

@@ -12,7 +12,7 @@ ghost use Rattle.words.specs.Bounded.{any};
 ghost use Rattle.entries.specs.Entries.{isUnaccepted};
 ghost use Rattle.entries.specs.Meaning.{levelOf};
 ghost use Rattle.rules.specs.Create.{misplaced};
-ghost use Rattle.rules.specs.Store.{lent, limit};
+ghost use Rattle.rules.specs.Store.{counterLimit, lent};
 ghost use Rattle.rules.specs.Tables.{astray};
 ghost use Rattle.validation.specs.Bounds.{entryBeyond};
 ghost use Rattle.validation.specs.Entries.{HoldsWords, TablePlaced, entryFrom};
@@ -47,7 +47,7 @@ pub fn some_astray(level: Level, memory: &[u8], j: usize, m: usize, first: u32, 
 // Some counter by which an entry counts is above the limit.
 pub fn some_above_limit(level: Level, memory: &[u8], ledger: &[u8], j: usize, m: usize) -> bool
     requires { ⌜ TablePlaced (levelOf level) (now memory) (now ledger) j m ⌝ }
-    ensures { λ r. ⌜ r ≡ any m (λ i. entryBeyond 0 limit (lent (now (memory .entry)) (now (ledger .entry))) (entryFrom (levelOf level) (now (memory .entry)) j i)) ⌝ }
+    ensures { λ r. ⌜ r ≡ any m (λ i. entryBeyond 0 counterLimit (lent (now (memory .entry)) (now (ledger .entry))) (entryFrom (levelOf level) (now (memory .entry)) j i)) ⌝ }
 {
     for i in 0..m {
         if entry_beyond(

@@ -7,8 +7,9 @@ use native.Mathlib.Nat.{eq-or-lt-of-le, le-of-suc-le-suc}
 use native.Mathlib.Decide.{decLt}
 use native.Mathlib.Numerals.{add-one}
 use native.Mathlib.Omega.{arith}
-use borrow.Author.Tests.{lt-ltb, le-ltb, eq-eqb, ne-eqb}
-use Rattle.words.specs.Bounded.{above, any, neqb}
+use borrow.Author.Tests.{lt-ltb, le-ltb, lt-leb, le-leb, ltb-true, leb-true, eq-eqb, ne-eqb}
+use lib.Dec.{leb, ltb}
+use Rattle.words.specs.Bounded.{above, neqb, among, any}
 
 -- a number below n + 1 is n or below n
 pub last-or-below : {i n : ℕ} → i < suc n → (i ≡ n) ⊎ (i < n)
@@ -59,6 +60,20 @@ or-cases false b e = inr e
 pub and-true : (a b : Bool) → (a && b) ≡ true → (a ≡ true) × (b ≡ true)
 and-true true b e = (refl, e)
 and-true false b e = absurd (false≢true e)
+
+-- b is one of the m numbers from p on
+module _ (p m b : ℕ) where
+  pub among-in : p ≤ b → b < p + m → among p m b ≡ true
+  among-in lo hi = rw (le-leb p b lo, lt-ltb b (p + m) hi) refl
+
+  pub among-out : (p ≤ b → p + m ≤ b) → among p m b ≡ false
+  among-out o =
+      ⊎-elim (λ (l : b < p). rw (lt-leb p b l) refl)
+      (λ (l : p ≤ b). rw (le-leb p b l, le-ltb b (p + m) (o l)) refl)
+      (below-or-above b p)
+
+  pub among-within : among p m b ≡ true → (p ≤ b) × (b < p + m)
+  among-within t = let (lo, hi) = and-true (leb p b) (ltb b (p + m)) t in (leb-true p b lo, ltb-true b (p + m) hi)
 
 -- two tests that imply each other are the same
 pub both-ways : (a b : Bool) → (a ≡ true → b ≡ true) → (b ≡ true → a ≡ true) → a ≡ b

@@ -1,7 +1,7 @@
 -- Tests, sums and counts over the numbers below a bound. Plain mathematics.
-use mathlib.Core.Bool.{Bool, true, false, not, _||_}
+use mathlib.Core.Bool.{Bool, true, false, not, _&&_, _||_}
 use Prim.Native.Nat.{ℕ, zero, suc, _+_}
-use lib.Dec.{ltb, eqb}
+use lib.Dec.{leb, ltb, eqb}
 
 -- a is above b
 abbrev pub above : ℕ → ℕ → Bool
@@ -10,6 +10,10 @@ above a b = ltb b a
 -- a and b differ
 abbrev pub neqb : ℕ → ℕ → Bool
 neqb a b = not (eqb a b)
+
+-- b is one of the m numbers from p on
+abbrev pub among : ℕ → ℕ → ℕ → Bool
+among p m b = leb p b && ltb b (p + m)
 
 -- p holds of some number below n
 unfoldable pub any : ℕ → (ℕ → Bool) → Bool

@@ -5,7 +5,7 @@ ghost use lib.ListN.{length};
 ghost use Rattle.words.specs.Lists.{putList};
 ghost use Rattle.words.specs.Words.{bits, word, putWord};
 
-pub const WORD_SIZE: usize = 4;
+pub const WORD_BYTES: usize = 4;
 
 // The word of four bytes, the lowest first.
 fn word_of(a: u8, b: u8, c: u8, d: u8) -> u32

@@ -17,11 +17,11 @@ change-words-requires c κs =
     let start = c .before .before .before .before .before .before .before .before .before in
     let granted = told (c .before .before .before .before .before .before .before .grants .ensures) (c .before .before .before .before .before .before .if1 .taken) in
     let (lo, hi) = start .pre .0 _ granted in
-    (c .before .place .ensures .1, omega arith, λ i l. rw (c .before .place .ensures .0, c .before .before .before .before .before .first .ensures, c .before .before .before .base .ensures) (start .pre .1 granted i (omega arith)))
+    (c .before .counter-word .ensures .1, omega arith, λ i l. rw (c .before .counter-word .ensures .0, c .before .before .before .before .before .first .ensures, c .before .before .before .base .ensures) (start .pre .1 granted i (omega arith)))
 
 returns : tie.Need-returns
 unfolding changedCounter
-returns c = rw (told (c .before .before .before .before .before .before .before .before .before .before .grants .ensures) (c .before .before .before .before .before .before .before .before .before .if1 .taken)) (rw (c .before .before .before .before .place .ensures .0, c .before .before .before .before .before .before .before .before .first .ensures, c .before .before .before .before .before .before .base .ensures, c .before .before .before .size .ensures) at (c .before .before .change-words .ensures))
+returns c = rw (told (c .before .before .before .before .before .before .before .before .before .before .grants .ensures) (c .before .before .before .before .before .before .before .before .before .if1 .taken)) (rw (c .before .before .before .before .counter-word .ensures .0, c .before .before .before .before .before .before .before .before .first .ensures, c .before .before .before .before .before .before .base .ensures, c .before .before .before .size .ensures) at (c .before .before .change-words .ensures))
 
 returns-2 : tie.Need-returns-2
 unfolding changedCounter

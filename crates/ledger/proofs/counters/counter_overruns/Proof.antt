@@ -18,11 +18,11 @@ sub-b : tie.Need-sub-b
 sub-b c = let (lo, hi) = c .before .before .before .before .before .pre _ (told (c .before .before .before .grants .ensures) (not-false _ (c .before .before .if1 .left))) in omega arith
 
 some-overruns-requires : tie.Need-some-overruns-requires
-some-overruns-requires c κs = let (lo, hi) = c .before .before .before .before .before .before .before .pre _ (told (c .before .before .before .before .before .grants .ensures) (not-false _ (c .before .before .before .before .if1 .left))) in (c .before .place .ensures .1, omega arith)
+some-overruns-requires c κs = let (lo, hi) = c .before .before .before .before .before .before .before .pre _ (told (c .before .before .before .before .before .grants .ensures) (not-false _ (c .before .before .before .before .if1 .left))) in (c .before .counter-word .ensures .1, omega arith)
 
 returns-2 : tie.Need-returns-2
 unfolding counterOverruns
-returns-2 c = rw (told (c .before .before .before .before .before .before .grants .ensures) (not-false _ (c .before .before .before .before .before .if1 .left))) (rw (c .before .before .place .ensures .0, c .before .before .before .before .first .ensures, c .before .before .before .base .ensures, c .before .size .ensures) at (c .some-overruns .ensures))
+returns-2 c = rw (told (c .before .before .before .before .before .before .grants .ensures) (not-false _ (c .before .before .before .before .before .if1 .left))) (rw (c .before .before .counter-word .ensures .0, c .before .before .before .before .first .ensures, c .before .before .before .base .ensures, c .before .size .ensures) at (c .some-overruns .ensures))
 
 pub counter-overruns-spec : {M : Type 1} → statement M
 counter-overruns-spec =

@@ -4,7 +4,7 @@ use Prim.Native.Nat.{ℕ}
 use borrow.Author.Needs.{needs}
 use native.Mathlib.Omega.{arith}
 use Rattle.words.specs.Bounded.{neqb}
-use Rattle.rules.specs.Store.{recordWord, typePlace}
+use Rattle.rules.specs.Store.{recordWord, typeWord}
 use Rattle.rules.proofs.State.{fits, within}
 use Rattle.ledger.proofs.Blocks.{someBlock-records}
 use Rattle.ledger.proofs.table.is_other_type.Statement.{statement}
@@ -26,7 +26,7 @@ returns : tie.Need-returns
 returns c =
     let start = c .before .before .before .before .before in
     let scanned = rw (c .before .before .base .ensures, c .before .table-blocks .ensures .0) at (c .some-differs .ensures) in
-    scanned ∙ someBlock-records _ (start .args .block) _ (λ (x : ℕ). neqb (recordWord (start .args .ledger .now) typePlace x) (start .args .t)) (within _ _ _ _ (start .pre .1) .0)
+    scanned ∙ someBlock-records _ (start .args .block) _ (λ (x : ℕ). neqb (recordWord (start .args .ledger .now) typeWord x) (start .args .t)) (within _ _ _ _ (start .pre .1) .0)
 
 pub is-other-type-spec : {M : Type 1} → statement M
 is-other-type-spec =

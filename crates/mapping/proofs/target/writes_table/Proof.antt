@@ -4,7 +4,7 @@ use Prim.Native.Nat.{ℕ}
 use native.Mathlib.Omega.{arith}
 use borrow.Author.Tests.{not-true, not-false}
 use Rattle.words.specs.Bounded.{neqb}
-use Rattle.rules.specs.Store.{recordWord, typePlace}
+use Rattle.rules.specs.Store.{recordWord, typeWord}
 use Rattle.rules.specs.Tables.{typeD}
 use Rattle.rules.proofs.State.{fits, within}
 use Rattle.ledger.proofs.Blocks.{someBlock-records}
@@ -32,7 +32,7 @@ returns-2 c =
     let start = c .before .before .before .before .before .before in
     let scanned = rw (c .before .base .ensures) at (c .some-differs .ensures) in
     rw (told (c .before .before .before .allows .ensures) (not-false _ (c .before .before .if1 .left)))
-    (scanned ∙ someBlock-records _ (start .args .target) _ (λ (x : ℕ). neqb (recordWord (start .args .ledger .now) typePlace x) typeD) (within _ _ _ _ (start .pre .inside) .0))
+    (scanned ∙ someBlock-records _ (start .args .target) _ (λ (x : ℕ). neqb (recordWord (start .args .ledger .now) typeWord x) typeD) (within _ _ _ _ (start .pre .inside) .0))
 
 pub writes-table-spec : {M : Type 1} → statement M
 writes-table-spec =

@@ -22,14 +22,14 @@ put-types-requires : tie.Need-put-types-requires
 put-types-requires c κs =
     let fit = fits _ _ (c .before .before .before .before .before .before .before .before .before .before .before .before .before .before .before .pre .0 .0) in
     let inside = within _ _ _ _ (c .before .before .before .before .before .before .before .before .before .before .before .before .before .before .before .pre .0 .1) in
-    omega (arith, c .before .before .before .before .before .before .before .before .before .first-record .ensures .0, c .before .table-blocks .ensures .0)
+    omega (arith, c .before .before .before .before .before .before .before .before .before .table-record .ensures .0, c .before .table-blocks .ensures .0)
 
 returns-2 : tie.Need-returns-2
 returns-2 c =
     let yes = not-false (c .before .before .before .before .before .before .before .before .before .count-table .result) (c .before .before .before .before .before .before .if1 .left) in
     let counted = rw (yes, c .before .before .before .before .before .before .before .before .before .before .before .before .before .before .first-word .ensures, c .before .before .before .before .before .before .before .before .before .before .before .table-entries .ensures) at (c .before .before .before .before .before .before .before .before .before .count-table .ensures .1) in (
       sym yes ∙ (rw (c .before .before .before .before .before .before .before .before .before .before .before .before .before .before .first-word .ensures, c .before .before .before .before .before .before .before .before .before .before .before .table-entries .ensures) at (c .before .before .before .before .before .before .before .before .before .count-table .ensures .0)),
-      rw (counted, c .before .before .before .before .before .before .before .before .before .before .before .before .first-record .ensures .0, c .before .before .before .before .table-blocks .ensures .0, c .before .before .before .type-after .ensures) at (c .before .before .put-types .ensures),
+      rw (counted, c .before .before .before .before .before .before .before .before .before .before .before .before .table-record .ensures .0, c .before .before .before .before .table-blocks .ensures .0, c .before .before .before .type-after .ensures) at (c .before .before .put-types .ensures),
     )
 
 pub turn-table-spec : {M : Type 1} → statement M

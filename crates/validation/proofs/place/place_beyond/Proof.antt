@@ -2,7 +2,7 @@
 use mathlib.Core.Path.{_∙_}
 use Prim.Native.Nat.{ℕ}
 use Rattle.ledger.specs.Counters.{counterOf}
-use Rattle.rules.specs.Store.{recordWord, counterPlace}
+use Rattle.rules.specs.Store.{recordWord, counterWord}
 use Rattle.ledger.proofs.Blocks.{someBlock-records}
 use Rattle.validation.specs.Bounds.{beyond}
 use borrow.Author.Needs.{needs}
@@ -13,7 +13,7 @@ returns : tie.Need-returns
 returns c =
     let at = c .before .before .before .first-record .ensures in
     let a = c .before .before .before .before .before .before .args in
-    (rw (at .is, c .before .size .ensures, c .before .before .place .ensures .0) at (c .some-beyond .ensures)) ∙ someBlock-records _ _ _ (λ (x : ℕ). beyond (a .least) (a .most) (recordWord (a .ledger .now) (counterPlace (counterOf (a .counter))) x)) (at .low)
+    (rw (at .is, c .before .size .ensures, c .before .before .counter-word .ensures .0) at (c .some-beyond .ensures)) ∙ someBlock-records _ _ _ (λ (x : ℕ). beyond (a .least) (a .most) (recordWord (a .ledger .now) (counterWord (counterOf (a .counter))) x)) (at .low)
 
 pub place-beyond-spec : {M : Type 1} → statement M
 place-beyond-spec =

@@ -3,7 +3,7 @@ use Prim.Native.Nat.{_-_}
 use native.Mathlib.Omega.{arith}
 use Rattle.words.proofs.Bounded.{Scanned, scan-start, scan-next, scan-found, scan-end}
 use Rattle.ledger.proofs.Judge.{told}
-use Rattle.rules.specs.Store.{lent, limit}
+use Rattle.rules.specs.Store.{lent, counterLimit}
 use Rattle.entries.specs.Meaning.{levelOf}
 use Rattle.validation.specs.Bounds.{entryBeyond}
 use Rattle.validation.specs.Entries.{entryFrom}
@@ -11,7 +11,7 @@ use Rattle.validation.proofs.scan.some_above_limit.Statement.{statement
 use Rattle.validation.proofs.scan.some_above_limit.Tie as tie
 
 abbrev Inv-loop : tie.InvT-loop
-Inv-loop level memory ledger j m i₀ i = Scanned (λ k. entryBeyond 0 limit (lent memory ledger) (entryFrom (levelOf level) memory j k)) m i
+Inv-loop level memory ledger j m i₀ i = Scanned (λ k. entryBeyond 0 counterLimit (lent memory ledger) (entryFrom (levelOf level) memory j k)) m i
 
 abbrev μ-loop : tie.MeasureT-loop
 μ-loop level memory ledger j m i₀ i = m - i

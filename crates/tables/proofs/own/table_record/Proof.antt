@@ -3,8 +3,8 @@ use mathlib.Core.Path.{refl}
 use native.Mathlib.Omega.{arith}
 use Rattle.rules.proofs.State.{fits, within}
 use borrow.Author.Needs.{needs}
-use Rattle.tables.proofs.own.first_record.Statement.{statement}
-use Rattle.tables.proofs.own.first_record.Tie as tie
+use Rattle.tables.proofs.own.table_record.Statement.{statement}
+use Rattle.tables.proofs.own.table_record.Tie as tie
 
 base-requires : tie.Need-base-requires
 base-requires c κs = let fit = fits _ _ (c .before .before .pre .0) in omega arith
@@ -18,5 +18,5 @@ returns c =
     let inside = within _ _ _ _ (c .before .before .before .pre .1) in
     rw (c .base .ensures) (refl, omega arith)
 
-pub first-record-spec : {M : Type 1} → statement M
-first-record-spec = tie.close (tie.spec base-requires sub-result (λ c. search needs) returns)
+pub table-record-spec : {M : Type 1} → statement M
+table-record-spec = tie.close (tie.spec base-requires sub-result (λ c. search needs) returns)
