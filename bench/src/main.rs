@@ -47,12 +47,12 @@ fn print_line(workload: &Workload, blocks: usize, time: Duration) {
     let measured = measure(&batch, &mut scene.lent, time);
     let ratio = measured.monitor / measured.plain;
     let (name, monitor, plain) = (workload.name, measured.monitor, measured.plain);
-    println!("| {name:<38} | {blocks:>5} | {monitor:>10.1} | {plain:>10.1} | {ratio:>6.2} |");
+    println!("| {name:<39} | {blocks:>5} | {monitor:>10.1} | {plain:>10.1} | {ratio:>6.2} |");
 }
 
 fn print_table(time: Duration) {
-    println!("| {:<38} | {:>5} | {:>10} | {:>10} | {:>6} |", "call", "n", "monitor ns", "plain ns", "ratio");
-    println!("|{:-<40}|{:->7}|{:->12}|{:->12}|{:->8}|", "", ":", ":", ":", ":");
+    println!("| {:<39} | {:>5} | {:>10} | {:>10} | {:>6} |", "call", "n", "monitor ns", "plain ns", "ratio");
+    println!("|{:-<41}|{:->7}|{:->12}|{:->12}|{:->8}|", "", ":", ":", ":", ":");
     for workload in CALLS.iter().chain(&HASHING_CALLS) {
         for blocks in REGIONS.into_iter().filter(|blocks| *blocks >= workload.least) {
             print_line(workload, blocks, time);

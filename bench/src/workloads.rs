@@ -136,10 +136,11 @@ impl Scene {
         }
     }
 
-    fn written_targets(&mut self) {
+    /// Executable pages, in turn of each target.
+    fn written_targets(&mut self, pages: u32) {
         self.sign_targets();
-        for i in 0..TARGETS {
-            self.put_entry(L2_BLOCK, i, (DATA + i) << 12 | 0x02E);
+        for i in 0..pages {
+            self.put_entry(L2_BLOCK, i, (DATA + i % TARGETS) << 12 | 0x02E);
         }
     }
 }
@@ -302,9 +303,13 @@ pub static CALLS: [Workload; 30] = [
 ];
 
 /// Calls whose time is that of hashing blocks.
-pub static HASHING_CALLS: [Workload; 2] = [
+pub static HASHING_CALLS: [Workload; 3] = [
     workload("create L2, 64 executable pages", 512, |scene| {
-        scene.written_targets();
+        scene.written_targets(TARGETS);
+        accepted(CreateL2, vec![[L2_BLOCK, 0, 0, 0]])
+    }),
+    workload("create L2, 1,024 executable pages of 64", 512, |scene| {
+        scene.written_targets(1024);
         accepted(CreateL2, vec![[L2_BLOCK, 0, 0, 0]])
     }),
     workload("map L2, executable page", 512, |scene| {
