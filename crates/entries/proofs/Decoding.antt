@@ -3,7 +3,7 @@ use mathlib.Core.Path.{_≡_, refl, sym, ap}
 use mathlib.Core.Bool.{Bool, true, false, cond, false≢true}
 use mathlib.Core.List.{List}
 use mathlib.Core.Logic.{_≢_}
-use Prim.Native.Nat.{ℕ, _+_, _*_, _-_, _/_, _^_, _≤_}
+use Prim.Native.Nat.{ℕ, _+_, _*_, _-_, _/_, _%_, _^_, _≤_}
 use native.Mathlib.Omega.{arith}
 use borrow.Author.Tests.{eqb-true, ne-eqb, le-ltb}
 use lib.Dec.{eqb, ltb}
@@ -11,8 +11,33 @@ use Rattle.words.specs.Words.{bits, word, putWord}
 use Rattle.words.proofs.Bounded.{and-true}
 use Rattle.words.proofs.Fields.{bits-low}
 use Rattle.words.proofs.Words.{word-putWord-other}
-use Rattle.entries.specs.Rights.{rightsOf}
-use Rattle.entries.specs.Entries.{Entry, fault, unaccepted, link, section, page, Level, l1, l2, sectionAP, sectionXN, pageAP, pageXN, isLinkForm, isSectionForm, isPageForm, l1Entry, l2Entry, entryAt, codeOf, pageCode, first, size, sectionBlocks}
+use Rattle.entries.specs.Rights.{acceptedAP, rightsOf}
+use Rattle.entries.specs.Entries.{
+  Entry,
+  fault,
+  unaccepted,
+  link,
+  section,
+  page,
+  Level,
+  l1,
+  l2,
+  sectionAP,
+  sectionXN,
+  pageAP,
+  pageXN,
+  isLinkForm,
+  isSectionForm,
+  isPageForm,
+  l1Entry,
+  l2Entry,
+  entryAt,
+  codeOf,
+  pageCode,
+  first,
+  size,
+  sectionBlocks,
+}
 
 -- Words of level 2
 
@@ -49,6 +74,46 @@ l2Entry-code w =
     )
     (byTests-code (eqb (bits w 0 2) 0) (isPageForm w) (bits w 12 20) (bits (bits w 0 10) 12 20) (rightsOf (pageAP w) (pageXN w)))
 
+-- the number of a page by AP and XN, the binary digits of n
+unfoldable pub accessCode : ℕ → ℕ
+accessCode n = cond (acceptedAP (n / 2)) (8 + rightsOf (n / 2) (n % 2)) 7
+
+codeOf-page : (t : Bool) (p r : ℕ) → cond t (8 + r) 7 ≡ codeOf (cond t (page p r) unaccepted)
+unfolding codeOf
+codeOf-page true p r = refl
+codeOf-page false p r = refl
+
+pub pageCode-page : (low r n : ℕ) → bits low 1 1 ≡ 1 → r ≡ 2 * pageAP low + pageXN low → r ≡ n → accessCode n ≡ pageCode low
+unfolding accessCode pageCode l2Entry isPageForm
+pageCode-page low r n h e k =
+    let form = ne-eqb (bits low 0 2) 0 (λ z. omega arith) in
+    let ap : pageAP low ≡ n / 2 = omega arith in
+    let xn : pageXN low ≡ n % 2 = omega arith in
+    rw (form, h, ap, xn) (codeOf-page (acceptedAP (n / 2)) (bits low 12 20) (rightsOf (n / 2) (n % 2)))
+
+-- the number of the low bits of a page
+pub pageForm-bit : (w : ℕ) → isPageForm w ≡ true → bits w 1 1 ≡ 1
+unfolding isPageForm
+pageForm-bit w h = eqb-true (bits w 1 1) 1 (and-true (eqb (bits w 1 1) 1) (acceptedAP (pageAP w)) h .0)
+
+pub pageCode-form : (w : ℕ) → isPageForm w ≡ true → pageCode (bits w 0 10) ≡ 8 + rightsOf (pageAP w) (pageXN w)
+unfolding pageCode l2Entry isPageForm codeOf
+pageCode-form w h =
+    let one = pageForm-bit w h in
+    rw (
+      bits-low w 0 2 10 (omega arith),
+      bits-low w 1 1 10 (omega arith),
+      bits-low w 9 1 10 (omega arith),
+      bits-low w 4 2 10 (omega arith),
+      bits-low w 0 1 10 (omega arith),
+      ne-eqb (bits w 0 2) 0 (λ z. omega arith),
+      h,
+    )
+
+pub l2Entry-page : (w : ℕ) → isPageForm w ≡ true → l2Entry w ≡ page (bits w 12 20) (rightsOf (pageAP w) (pageXN w))
+unfolding l2Entry
+l2Entry-page w h = let one = pageForm-bit w h in rw (ne-eqb (bits w 0 2) 0 (λ z. omega arith), h)
+
 -- Words of level 1
 
 -- an L1 entry by its form: the forms differ in bits 1..0
@@ -81,6 +146,12 @@ pub sectionRights-low : (w : ℕ) → rightsOf (sectionAP (bits w 0 20)) (sectio
 sectionRights-low w = rw (bits-low w 15 1 20 (omega arith), bits-low w 10 2 20 (omega arith), bits-low w 4 1 20 (omega arith))
 
 -- Positions
+
+-- at both levels bits 1..0 say that a word is a fault
+pub entryAt-fault : (v : Level) (mem : List ℕ) (j : ℕ) → bits (word mem (4 * j)) 0 2 ≡ 0b00 → fault ≡ entryAt v mem j
+unfolding entryAt l1Entry l2Entry
+entryAt-fault l1 mem j h = rw h
+entryAt-fault l2 mem j h = rw h
 
 -- entries whose aligned sixteen words agree are the same: today the word itself would do
 pub entryAt-cong : (v : Level) (xs ys : List ℕ) (j : ℕ)

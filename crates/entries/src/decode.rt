@@ -6,14 +6,16 @@ use crate::entry::Mapping;
 use crate::entry::READ;
 use crate::entry::SECTION_BLOCKS;
 use crate::entry::WRITE;
-use crate::table::rights_at;
+use crate::table::page_rights_at;
 use words::WORD_BYTES;
 ghost use mathlib.Core.Path.{_≡_};
-ghost use Prim.Native.Nat.{_+_, _*_, _<_};
+ghost use mathlib.Core.Bool.{true};
+ghost use mathlib.Core.List.{List};
+ghost use Prim.Native.Nat.{ℕ, _+_, _*_, _<_};
 ghost use Rattle.words.specs.Bounded.{num};
-ghost use Rattle.words.specs.Words.{bits};
+ghost use Rattle.words.specs.Words.{bits, word};
 ghost use Rattle.entries.specs.Rights.{mayRead, mayWrite, mayExecute, rightsOf};
-ghost use Rattle.entries.specs.Entries.{entryAt, isLinkForm, isSectionForm, l1, l1Entry, l2, l2Entry, sectionAP, sectionBlocks, sectionXN, sectionZeros};
+ghost use Rattle.entries.specs.Entries.{entryAt, isLinkForm, isPageForm, isSectionForm, l1, l1Entry, l2, l2Entry, pageAP, pageXN, sectionAP, sectionBlocks, sectionXN, sectionZeros};
 ghost use Rattle.entries.specs.Meaning.{levelOf, meaning};
 ghost use Rattle.entries.specs.Needs.{HoldsWord};
 
@@ -25,9 +27,7 @@ const SECTION_FORM: u32 = 0b10;
 
 const UNACCEPTED_AP: u32 = 0b100;
 
-// Page rights: 0 is a fault, 7 not accepted, and from 8 on the rights are added.
-const FAULT: u8 = 0;
-
+// From 8 on the numbers of the page rights are those of accepted forms.
 const ACCEPTED: u8 = 8;
 
 // "AP 010, 110 and 111 let the guest read; 011 read and write; 000, 001 and 101 nothing"
@@ -138,20 +138,52 @@ fn l1_entry(w: u32) -> Entry
     Entry::Unaccepted
 }
 
+// "AP = bits 9, 5, 4"
+fn page_ap(w: u32) -> u32
+    ensures { λ r. ⌜ r ≡ pageAP w ⌝ }
+{
+    4 * words::bits(w, 9, 1) + words::bits(w, 4, 2)
+}
+
+// "L2 10 or 11: page", and not AP 100
+fn is_page_form(w: u32) -> bool
+    ensures { λ r. ⌜ r ≡ isPageForm w ⌝ }
+{
+    words::bits(w, 1, 1) == 1 && page_ap(w) != UNACCEPTED_AP
+}
+
+// The block and the rights of a page.
+fn page_mapping(w: u32) -> Mapping
+    requires { ⌜ isPageForm w ≡ true ⌝ }
+    ensures { λ r. ⌜ (r .first ≡ bits w 12 20) × (r .rights ≡ rightsOf (pageAP w) (pageXN w)) ⌝ }
+{
+    let code = page_rights_at(words::bits(w, 0, 10) as usize);
+    Mapping {
+        first: words::bits(w, 12, 20),
+        rights: (code - ACCEPTED) as u32,
+    }
+}
+
 fn l2_entry(w: u32) -> Entry
     ensures { λ r. ⌜ meaning r ≡ l2Entry w ⌝ }
 {
-    let code = rights_at(words::bits(w, 0, 10) as usize);
-    if code == FAULT {
+    if words::bits(w, 0, 2) == FAULT_FORM {
         return Entry::Fault;
     }
-    if code < ACCEPTED {
-        return Entry::Unaccepted;
+    if is_page_form(w) {
+        return Entry::Page(page_mapping(w));
     }
-    Entry::Page(Mapping {
-        first: words::bits(w, 12, 20),
-        rights: (code - ACCEPTED) as u32,
-    })
+    Entry::Unaccepted
+}
+
+// The entry that a word w of a table of this level is.
+fn entry_of(level: Level, w: u32) -> Entry
+    ensures { λ r. ⌜ ((mem : List ℕ) (j : ℕ) → w ≡ word mem (4 * j) → meaning r ≡ entryAt (levelOf level) mem j) ⌝ }
+{
+    match level {
+        Level::L1 => l1_entry(w),
+        Level::L2 => l2_entry(w),
+    }
 }
 
 // Word j of the memory, read as an entry of an L1 table.
@@ -159,7 +191,7 @@ pub fn l1_entry_at(mem: &[u8], j: usize) -> Entry
     requires { ⌜ HoldsWord (now mem) j ⌝ }
     ensures { λ r. ⌜ meaning r ≡ entryAt l1 (now (mem .entry)) j ⌝ }
 {
-    l1_entry(words::word(mem, WORD_BYTES * j))
+    entry_of(Level::L1, words::word(mem, WORD_BYTES * j))
 }
 
 // Word j of the memory, read as an entry of an L2 table.
@@ -167,16 +199,18 @@ pub fn l2_entry_at(mem: &[u8], j: usize) -> Entry
     requires { ⌜ HoldsWord (now mem) j ⌝ }
     ensures { λ r. ⌜ meaning r ≡ entryAt l2 (now (mem .entry)) j ⌝ }
 {
-    l2_entry(words::word(mem, WORD_BYTES * j))
+    entry_of(Level::L2, words::word(mem, WORD_BYTES * j))
 }
 
-// Word j of the memory, read as an entry of a table of this level.
+// Word j of the memory, read as an entry of a table of this level. Faults, which fill most tables, are told apart first: a test that is small enough to be
+// compiled into the loops over a table, as `entry_of` is not.
 pub fn entry_at(level: Level, mem: &[u8], j: usize) -> Entry
     requires { ⌜ HoldsWord (now mem) j ⌝ }
     ensures { λ r. ⌜ meaning r ≡ entryAt (levelOf level) (now (mem .entry)) j ⌝ }
 {
-    match level {
-        Level::L1 => l1_entry_at(mem, j),
-        Level::L2 => l2_entry_at(mem, j),
+    let w = words::word(mem, WORD_BYTES * j);
+    if words::bits(w, 0, 2) == FAULT_FORM {
+        return Entry::Fault;
     }
+    entry_of(level, w)
 }

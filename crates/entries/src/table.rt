@@ -1,7 +1,8 @@
 // The rights of a page by bits 9..0 of its word.
 ghost use mathlib.Core.Path.{_≡_};
-ghost use Prim.Native.Nat.{_<_};
-ghost use Rattle.entries.specs.Entries.{pageCode};
+ghost use Prim.Native.Nat.{_*_, _+_, _<_};
+ghost use Rattle.words.specs.Words.{bits};
+ghost use Rattle.entries.specs.Entries.{pageAP, pageCode, pageXN};
 
 // "fault 0; not accepted 7; else 8 + 1 (read) + 2 (write) + 4 (execute)". The twelve indices that the paper lists are marked.
 const PAGE_RIGHTS: [u8; 1024] = [
@@ -1031,10 +1032,45 @@ const PAGE_RIGHTS: [u8; 1024] = [
     9,
 ];
 
-// The number at an index, which is bits 9..0 of a word.
+// The number at an index, which is bits 9..0 of a word. The language has no static data: the whole array is laid on the stack first.
 pub fn rights_at(low: usize) -> u8
     requires { ⌜ low < 1024 ⌝ }
     ensures { λ r. ⌜ r ≡ pageCode low ⌝ }
 {
     PAGE_RIGHTS[low]
+}
+
+// AP and XN of a page, as four binary digits.
+fn access_of(low: usize) -> usize
+    ensures { λ r. ⌜ r ≡ 2 * pageAP low + pageXN low ⌝ }
+{
+    low / 0x200 % 2 * 8 + low / 0x10 % 4 * 2 + low % 2
+}
+
+// The same at the index of a page. The bits of the memory kind do not change the number, so it is read where they are 0: there the index is fixed, and the
+// compiler has the number itself. The first sixteen arms are all that are taken.
+pub fn page_rights_at(low: usize) -> u8
+    requires { ⌜ (low < 1024) × (bits low 1 1 ≡ 1) ⌝ }
+    ensures { λ r. ⌜ r ≡ pageCode low ⌝ }
+{
+    let numbers = &PAGE_RIGHTS;
+    match access_of(low) {
+        0b0000 => numbers[0x002],
+        0b0001 => numbers[0x003],
+        0b0010 => numbers[0x012],
+        0b0011 => numbers[0x013],
+        0b0100 => numbers[0x022],
+        0b0101 => numbers[0x023],
+        0b0110 => numbers[0x032],
+        0b0111 => numbers[0x033],
+        0b1000 => numbers[0x202],
+        0b1001 => numbers[0x203],
+        0b1010 => numbers[0x212],
+        0b1011 => numbers[0x213],
+        0b1100 => numbers[0x222],
+        0b1101 => numbers[0x223],
+        0b1110 => numbers[0x232],
+        0b1111 => numbers[0x233],
+        _ => rights_at(low),
+    }
 }

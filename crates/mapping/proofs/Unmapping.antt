@@ -17,15 +17,13 @@ use Rattle.rules.proofs.Refusals.{Passed, passed, now, rest}
 use Rattle.ledger.specs.Counters.{Countable}
 use Rattle.ledger.proofs.Counting.{countable}
 use Rattle.ledger.proofs.Judge.{Decides, decides}
-use Rattle.mapping.specs.Pieces.{holderRefusals, removalRefusals}
+use Rattle.mapping.specs.Pieces.{removalRefusals, slotRefusals}
 use Rattle.mapping.specs.Slots.{InTable, Slot}
 use Rattle.mapping.proofs.Slots.{slot}
 
 -- the list by its pieces, for the entry that stands at the index
 abbrev pub pieces : Level → Store → ℕ → ℕ → Entry → List Refusal
-pieces v s p i e =
-    1 if misfit s (base s) ∷ 2 if tableOutside v s p ∷ 3 if misaligned p (tableBlocks v) ∷ 4 if beyondTable v i
-    ∷ (holderRefusals v s p i ++ removalRefusals s e)
+pieces v s p i e = slotRefusals v s p i ++ removalRefusals s e
 
 unmap-list : (f : Form) (s : Store) (p i : ℕ) → unmapRefusals f s p i ≡ pieces (level f) s p i (tableEntry (level f) s p i)
 unfolding any someOverrun gain sum
@@ -37,6 +35,11 @@ unmap-after : (f : Form) (s : Store) (p i : ℕ)
 unfolding wordOf gain sum
 unmap-after sections s p i = (refl, rw (add-zero i) refl)
 unmap-after pages s p i = (refl, rw (add-zero i) refl)
+
+-- a slot that has passed lies in a table
+pub slot-table : {v : Level} {s : Store} {p i : ℕ} {rs : List Refusal}
+    → Passed (1 if misfit s (base s) ∷ 2 if tableOutside v s p ∷ 3 if misaligned p (tableBlocks v) ∷ 4 if beyondTable v i ∷ rs) → InTable v s p i
+slot-table t = record { fits = now t; inside = now (rest t); in-table = now (rest (rest (rest t))) }
 
 module _ (f : Form) (s : Store) (p i : ℕ) {v : Level} (is : v ≡ level f) where
   pub unmap-judged : {e : Entry} {a : ℕ} → e ≡ tableEntry v s p i → Decides (pieces v s p i e) a → a ≡ answerOf (unmapRefusals f s p i)
@@ -50,14 +53,11 @@ module _ (f : Form) (s : Store) (p i : ℕ) {v : Level} (is : v ≡ level f) whe
         let there : unmapRefusals f s p i ≡ pieces v s p i (tableEntry v s p i) = unmap-list f s p i ∙ rw is refl in
         passed (pieces v s p i (tableEntry v s p i)) (omega arith) (sym (ap answerOf there) ∙ accepted)
 
-    pub unmap-table : InTable v s p i
-    unmap-table = let t = all-passed in record { fits = now t; inside = now (rest t); in-table = now (rest (rest (rest t))) }
-
     pub unmap-ready : {e : Entry} → e ≡ tableEntry v s p i → Slot s p i × ((astray (base s) (blocks s) e ≡ false) × ((c : Counter) → Countable removed (s .ledger) c e))
     unmap-ready {e} at =
         let t10 = rest (rest (rest (rest (rest (rest (rest all-passed)))))) in
         let t1 = now all-passed in
-        rw at (slot unmap-table, (now t10, countable removed s (tableEntry v s p i) t1 (now t10) (now (rest t10))))
+        rw at (slot (slot-table {v = v} all-passed), (now t10, countable removed s (tableEntry v s p i) t1 (now t10) (now (rest t10))))
 
   pub unmap-memory : {memory : List ℕ} → memory ≡ fill (s .memory) (wordIndex s p i) 1 0 → memory ≡ unmapAfter f s p i .memory
   unmap-memory m = m ∙ unmap-after f s p i .0

@@ -5,6 +5,7 @@ use crate::slot::entry_in;
 use crate::slot::holder_refusal;
 use crate::slot::write_entry;
 use entries::entry::Entry;
+use entries::entry::Level;
 use entries::entry::is_unaccepted;
 use ledger::counters::Change;
 use ledger::counters::entry_overruns;
@@ -21,13 +22,13 @@ use ledger::region::is_misfit_stored;
 use ledger::table::place_refusal;
 use ledger::table::table_entries;
 ghost use mathlib.Core.Path.{_≡_};
-ghost use Rattle.entries.specs.Meaning.{meaning};
+ghost use Rattle.entries.specs.Meaning.{levelOf, meaning};
 ghost use Rattle.rules.specs.Refusals.{answerOf};
 ghost use Rattle.rules.specs.Store.{lent};
-ghost use Rattle.rules.specs.Unmap.{unmapOutcome, unmapRefusals};
+ghost use Rattle.rules.specs.Unmap.{unmapOutcome};
 ghost use Rattle.ledger.specs.Lent.{Fits};
 ghost use Rattle.mapping.specs.Forms.{formOf};
-ghost use Rattle.mapping.specs.Pieces.{removalRefusals};
+ghost use Rattle.mapping.specs.Pieces.{removalRefusals, slotRefusals};
 
 // "The word becomes 0"
 const FAULT_WORD: u32 = 0;
@@ -49,13 +50,13 @@ fn removal_refusal(memory: &[u8], ledger: &[u8], e: Entry) -> u32
     ACCEPTED
 }
 
-fn unmap_refusal(form: Form, memory: &[u8], ledger: &[u8], block: u32, index: u32) -> u32
-    ensures { λ r. ⌜ r ≡ answerOf (unmapRefusals (formOf form) (lent (now (memory .entry)) (now (ledger .entry))) block index) ⌝ }
+// Refusals 1 to 7: lengths, the table, the index and the block that holds the entry.
+fn slot_refusal(level: Level, memory: &[u8], ledger: &[u8], block: u32, index: u32) -> u32
+    ensures { λ r. ⌜ r ≡ answerOf (slotRefusals (levelOf level) (lent (now (memory .entry)) (now (ledger .entry))) block index) ⌝ }
 {
     if is_misfit_stored(memory, ledger) {
         return MISFIT;
     }
-    let level = level(form);
     let place = place_refusal(level, memory, ledger, block);
     if place != ACCEPTED {
         return place;
@@ -63,15 +64,7 @@ fn unmap_refusal(form: Form, memory: &[u8], ledger: &[u8], block: u32, index: u3
     if table_entries(level) <= index {
         return BEYOND_TABLE;
     }
-    let holder = holder_refusal(level, memory, ledger, block, index);
-    if holder != ACCEPTED {
-        return holder;
-    }
-    removal_refusal(
-        memory,
-        ledger,
-        entry_in(level, memory, ledger, block, index),
-    )
+    holder_refusal(level, memory, ledger, block, index)
 }
 
 // "The word becomes 0, a fault entry's too", and the counters lose the entry.
@@ -79,11 +72,16 @@ pub fn unmap(form: Form, memory: &mut [u8], ledger: &mut [u8], block: u32, index
     ensures { λ r. ⌜ r ≡ unmapOutcome (formOf form) (lent (now (memory .entry)) (now (ledger .entry))) block index .answer ⌝ }
     ensures { λ r. ⌜ lent (now (memory .exit)) (now (ledger .exit)) ≡ unmapOutcome (formOf form) (lent (now (memory .entry)) (now (ledger .entry))) block index .after ⌝ }
 {
-    let refusal = unmap_refusal(form, memory, ledger, block, index);
-    if refusal != ACCEPTED {
-        return refusal;
+    let level = level(form);
+    let slot = slot_refusal(level, memory, ledger, block, index);
+    if slot != ACCEPTED {
+        return slot;
     }
-    let e = entry_in(level(form), memory, ledger, block, index);
+    let e = entry_in(level, memory, ledger, block, index);
+    let removal = removal_refusal(memory, ledger, e);
+    if removal != ACCEPTED {
+        return removal;
+    }
     write_entry(Change::Removed, memory, ledger, block, index, e, FAULT_WORD);
     ACCEPTED
 }

@@ -1,13 +1,20 @@
--- `entries::decode::entry_at` meets its contract: each level has its function.
+-- `entries::decode::entry_at` meets its contract: bits 1..0 tell a fault at both levels.
+use mathlib.Core.Path.{_∙_, sym}
 use borrow.Author.Needs.{needs}
+use Rattle.entries.specs.Meaning.{levelOf}
+use Rattle.entries.proofs.Decoding.{entryAt-fault}
 use Rattle.entries.proofs.decode.entry_at.Statement.{statement}
 use Rattle.entries.proofs.decode.entry_at.Tie as tie
 
 returns : tie.Need-returns
-returns c = rw (c .before .enum-told .given .1) (c .l1-entry-at .ensures)
+returns c =
+    let a = c .before .before .before .before .args in
+    entryAt-fault (levelOf (a .level)) (a .mem .now) (a .j) (rw (c .before .bits .ensures, c .before .before .word .ensures) at (c .if1 .taken))
 
 returns-2 : tie.Need-returns-2
-returns-2 c = rw (c .before .enum-told2 .given .1) (c .l2-entry-at .ensures)
+returns-2 c =
+    let a = c .before .before .before .before .before .args in
+    c .entry-of .ensures (a .mem .now) (a .j) (c .before .before .before .word .ensures)
 
 pub entry-at-spec : {M : Type 1} → statement M
-entry-at-spec = tie.close (tie.spec (search needs) (search needs) (search needs) (search needs) returns returns-2)
+entry-at-spec = tie.close (tie.spec (search needs) (search needs) (search needs) returns (search needs) returns-2)

@@ -1,13 +1,10 @@
--- `entries::decode::l2_entry_at` meets its contract: the word at the position is read as the definition reads it.
+-- `entries::decode::l2_entry_at` meets its contract: the word is read at the position.
 use borrow.Author.Needs.{needs}
-use mathlib.Core.Path.{ap, _∙_}
-use Rattle.entries.specs.Entries.{entryAt, l2Entry}
 use Rattle.entries.proofs.decode.l2_entry_at.Statement.{statement}
 use Rattle.entries.proofs.decode.l2_entry_at.Tie as tie
 
 returns : tie.Need-returns
-unfolding entryAt
-returns c = c .l2-entry .ensures ∙ ap l2Entry (c .before .word .ensures)
+returns c = let a = c .before .before .before .args in c .entry-of .ensures (a .mem .now) (a .j) (c .before .word .ensures)
 
 pub l2-entry-at-spec : {M : Type 1} → statement M
 l2-entry-at-spec = tie.close (tie.spec (search needs) (search needs) (search needs) returns)

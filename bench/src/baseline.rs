@@ -1,0 +1,853 @@
+//! The fourteen calls in plain Rust, written for speed: what a good program without proofs would be. Safe Rust, every index checked.
+//! Create and free count a table's entries in lent scratch bytes first, 16 for each block; their counts are 0 before and after each call.
+use crate::sha256::sha256;
+
+const BLOCK: usize = 4096;
+const LEDGER_HEAD: usize = 8;
+const RECORD: usize = 16;
+const DIGEST: usize = 32;
+
+const DATA: u32 = 0;
+const L1: u32 = 1;
+const L2: u32 = 2;
+
+const READ: u32 = 1;
+const WRITE: u32 = 2;
+const EXECUTE: u32 = 4;
+
+const NO_TABLE: u32 = 0xFFFF_FFFF;
+const LIMIT: u32 = 1 << 22;
+const L1_BLOCKS: u32 = 4;
+const SECTION_BLOCKS: u32 = 256;
+
+/// Nothing, or the number of a refusal.
+type Judged<T = ()> = Result<T, u32>;
+
+#[inline(always)]
+fn answer(judged: Judged) -> u32 {
+    match judged {
+        Ok(()) => 0,
+        Err(number) => number,
+    }
+}
+
+#[inline(always)]
+fn refuse_if(refused: bool, number: u32) -> Judged {
+    if refused {
+        return Err(number);
+    }
+    Ok(())
+}
+
+#[inline(always)]
+fn word(bytes: &[u8], at: usize) -> u32 {
+    u32::from_le_bytes(bytes[at..at + 4].try_into().unwrap())
+}
+
+#[inline(always)]
+fn put_word(bytes: &mut [u8], at: usize, word: u32) {
+    bytes[at..at + 4].copy_from_slice(&word.to_le_bytes());
+}
+
+/// A block's record in the ledger.
+type Record = [u8; RECORD];
+
+/// Where its words stand.
+const TYPE: usize = 0;
+const W: usize = 4;
+const X: usize = 8;
+const L: usize = 12;
+
+/// The records of all blocks.
+#[inline(always)]
+fn records(ledger: &[u8]) -> &[Record] {
+    ledger[LEDGER_HEAD..].as_chunks().0
+}
+
+#[inline(always)]
+fn records_mut(ledger: &mut [u8]) -> &mut [Record] {
+    ledger[LEDGER_HEAD..].as_chunks_mut().0
+}
+
+/// The records of a section's blocks.
+#[inline(always)]
+fn section_records(ledger: &[u8], t: usize) -> &[Record] {
+    &records(ledger)[t..t + SECTION_BLOCKS as usize]
+}
+
+#[derive(Clone, Copy)]
+struct Region {
+    first: u32,
+    blocks: u32,
+}
+
+impl Region {
+    #[inline(always)]
+    fn starting(first: u32, memory: &[u8], ledger: &[u8]) -> Judged<Region> {
+        let blocks = memory.len() / BLOCK;
+        refuse_if(memory.len() % BLOCK != 0 || !(8..=4096).contains(&blocks), 1)?;
+        refuse_if(ledger.len() != LEDGER_HEAD + RECORD * blocks, 1)?;
+        refuse_if(first % SECTION_BLOCKS != 0 || first as usize + blocks > 1 << 20, 1)?;
+        Ok(Region { first, blocks: blocks as u32 })
+    }
+
+    #[inline(always)]
+    fn stored(memory: &[u8], ledger: &[u8]) -> Judged<Region> {
+        refuse_if(ledger.len() < LEDGER_HEAD, 1)?;
+        Region::starting(word(ledger, 0), memory, ledger)
+    }
+
+    /// The first of m blocks, counted from the region's first, if they lie in the region.
+    #[inline(always)]
+    fn place(self, block: u32, m: u32) -> Option<usize> {
+        let b = block.wrapping_sub(self.first);
+        (b as u64 + m as u64 <= self.blocks as u64).then_some(b as usize)
+    }
+
+    #[inline(always)]
+    fn l1_place(self, block: u32) -> Judged<usize> {
+        let b = self.place(block, L1_BLOCKS).ok_or(2u32)?;
+        refuse_if(block % L1_BLOCKS != 0, 3)?;
+        Ok(b)
+    }
+}
+
+#[inline(always)]
+fn judge_image(golden: &[u8]) -> Judged {
+    refuse_if(golden.len() % DIGEST != 0 || golden.len() > 1024 * DIGEST, 1)
+}
+
+fn is_signed(memory: &[u8], b: usize, golden: &[u8]) -> bool {
+    let digest = sha256(&memory[BLOCK * b..BLOCK * (b + 1)]);
+    golden.chunks_exact(DIGEST).any(|listed| listed == digest)
+}
+
+#[derive(Clone, Copy)]
+enum Entry {
+    Fault,
+    Unaccepted,
+    /// The 1 KiB place of an L2 table.
+    Link(u32),
+    /// The first block, the number of blocks, and the rights.
+    Mapping(u32, u32, u32),
+}
+
+const FAULT: u8 = 0;
+const UNACCEPTED: u8 = 7;
+const ACCEPTED: u8 = 8;
+
+/// By AP and XN.
+const fn rights_code(ap: usize, xn: usize) -> u8 {
+    let read = matches!(ap, 0b010 | 0b011 | 0b110 | 0b111);
+    if ap == 0b100 {
+        return UNACCEPTED;
+    }
+    ACCEPTED + read as u8 + 2 * (ap == 0b011) as u8 + 4 * (read && xn == 0) as u8
+}
+
+/// By AP and XN: 2 * AP + XN.
+static SECTION_CODES: [u8; 16] = {
+    let mut codes = [0; 16];
+    let mut at = 0;
+    while at < 16 {
+        codes[at] = rights_code(at / 2, at % 2);
+        at += 1;
+    }
+    codes
+};
+
+/// By bits 9..0 of a page's word.
+static PAGE_CODES: [u8; 1024] = {
+    let mut codes = [FAULT; 1024];
+    let mut low = 0;
+    while low < 1024 {
+        if low % 4 == 1 {
+            codes[low] = UNACCEPTED;
+        }
+        if low % 4 >= 2 {
+            codes[low] = rights_code((low >> 9) * 4 + (low >> 4) % 4, low % 2);
+        }
+        low += 1;
+    }
+    codes
+};
+
+#[inline(always)]
+fn l1_entry(word: u32) -> Entry {
+    match word & 3 {
+        0 => Entry::Fault,
+        1 if word & 0x3FC == 0 => Entry::Link(word >> 10),
+        2 if word & 0xC_03E0 == 0 => {
+            let code = SECTION_CODES[((word >> 12 & 8) | (word >> 9 & 6) | (word >> 4 & 1)) as usize];
+            if code == UNACCEPTED {
+                return Entry::Unaccepted;
+            }
+            Entry::Mapping(word >> 20 << 8, SECTION_BLOCKS, (code - ACCEPTED) as u32)
+        }
+        _ => Entry::Unaccepted,
+    }
+}
+
+#[inline(always)]
+fn l2_entry(word: u32) -> Entry {
+    match PAGE_CODES[word as usize % 1024] {
+        FAULT => Entry::Fault,
+        UNACCEPTED => Entry::Unaccepted,
+        code => Entry::Mapping(word >> 12, 1, (code - ACCEPTED) as u32),
+    }
+}
+
+#[inline(never)]
+pub fn begin(memory: &[u8], ledger: &mut [u8], first: u32) -> u32 {
+    if let Err(number) = Region::starting(first, memory, ledger) {
+        return number;
+    }
+    ledger[LEDGER_HEAD..].fill(0);
+    put_word(ledger, 0, first);
+    put_word(ledger, 4, NO_TABLE);
+    0
+}
+
+/// A table's level: how its words are read, its blocks and its type.
+trait Level {
+    const BLOCKS: u32;
+    const TYPE: u32;
+    fn entry(word: u32) -> Entry;
+}
+
+struct Sections;
+struct Pages;
+
+impl Level for Sections {
+    const BLOCKS: u32 = L1_BLOCKS;
+    const TYPE: u32 = L1;
+    #[inline(always)]
+    fn entry(word: u32) -> Entry {
+        l1_entry(word)
+    }
+}
+
+impl Level for Pages {
+    const BLOCKS: u32 = 1;
+    const TYPE: u32 = L2;
+    #[inline(always)]
+    fn entry(word: u32) -> Entry {
+        l2_entry(word)
+    }
+}
+
+/// The words of the table at b.
+#[inline(always)]
+fn table_words<V: Level>(memory: &[u8], b: usize) -> impl Iterator<Item = u32> + '_ {
+    let table = &memory[BLOCK * b..BLOCK * (b + V::BLOCKS as usize)];
+    table.chunks_exact(4).map(|bytes| u32::from_le_bytes(bytes.try_into().unwrap()))
+}
+
+/// What a table's entries give to each block. Record b of the scratch bytes has the counts of block b in the places of the ledger's record;
+/// the first word of record i is the block that was the i-th to be counted.
+struct Counts<'a> {
+    scratch: &'a mut [Record],
+    counted: usize,
+}
+
+impl Counts<'_> {
+    /// Adds one to a count of block b, and gives the counts as they are then.
+    #[inline(always)]
+    fn add(&mut self, b: usize, k: usize) -> [u32; 3] {
+        let record = &mut self.scratch[b];
+        let mut counts = [W, X, L].map(|k| word(record, k));
+        let counted = counts != [0, 0, 0];
+        counts[k / 4 - 1] += 1;
+        put_word(record, k, counts[k / 4 - 1]);
+        if !counted {
+            put_word(&mut self.scratch[self.counted], TYPE, b as u32);
+            self.counted += 1;
+        }
+        counts
+    }
+
+    /// The i-th block that was counted.
+    #[inline(always)]
+    fn block(&self, i: usize) -> usize {
+        word(&self.scratch[i], TYPE) as usize
+    }
+
+    #[inline(never)]
+    fn clear(&mut self) {
+        for i in 0..self.counted {
+            let b = self.block(i);
+            self.scratch[b][W..].fill(0);
+        }
+    }
+}
+
+/// Would a counter end above its limit?
+#[inline(always)]
+fn added_overruns(old: u32, count: u32) -> bool {
+    old.saturating_add(count) > LIMIT
+}
+
+/// Above every number of a refusal.
+const NONE: u32 = 99;
+
+/// What the first pass over a new table finds: the lowest of the refusals 10, 11 and 13, and whether an entry executes.
+/// Counts only grow, so that a clash or an overrun on the way is one at the end.
+struct New {
+    refusal: u32,
+    executes: bool,
+}
+
+impl New {
+    #[inline(always)]
+    fn refuse_if(&mut self, refused: bool, number: u32) {
+        if refused {
+            self.refusal = self.refusal.min(number);
+        }
+    }
+
+    #[inline(always)]
+    fn link(&mut self, t: usize, ledger: &[Record], counts: &mut Counts) {
+        let old = &ledger[t];
+        let [_, _, l] = counts.add(t, L);
+        self.refuse_if(word(old, TYPE) != L2, 10);
+        self.refuse_if(added_overruns(word(old, L), l), 13);
+    }
+
+    #[inline(always)]
+    fn written(&mut self, t: usize, ledger: &[Record], counts: &mut Counts) {
+        let old = &ledger[t];
+        let [w, x, _] = counts.add(t, W);
+        self.refuse_if(word(old, TYPE) != DATA, 10);
+        self.refuse_if(word(old, X) | x != 0, 11);
+        self.refuse_if(added_overruns(word(old, W), w), 13);
+    }
+
+    #[inline(never)]
+    fn executed(&mut self, t: usize, ledger: &[Record], counts: &mut Counts) {
+        let old = &ledger[t];
+        let [w, x, _] = counts.add(t, X);
+        self.refuse_if(word(old, W) | w != 0, 11);
+        self.refuse_if(added_overruns(word(old, X), x), 13);
+        self.executes = true;
+    }
+
+    /// Refusal 8 is given at once.
+    #[inline(always)]
+    fn count<V: Level>(
+        &mut self,
+        memory: &[u8],
+        ledger: &[Record],
+        region: Region,
+        block: u32,
+        b: usize,
+        counts: &mut Counts,
+    ) -> Judged {
+        for word in table_words::<V>(memory, b) {
+            match V::entry(word) {
+                Entry::Fault => {}
+                Entry::Unaccepted => return Err(8),
+                Entry::Link(place) => match region.place(place / 4, 1) {
+                    Some(t) => self.link(t, ledger, counts),
+                    None => self.refuse_if(true, 10),
+                },
+                Entry::Mapping(first, m, rights) => match region.place(first, m) {
+                    Some(t) => {
+                        if rights & WRITE != 0 {
+                            self.refuse_if(first < block + V::BLOCKS && block < first + m, 10);
+                            (t..t + m as usize).for_each(|t| self.written(t, ledger, counts));
+                        }
+                        if rights & EXECUTE != 0 {
+                            (t..t + m as usize).for_each(|t| self.executed(t, ledger, counts));
+                        }
+                    }
+                    None => self.refuse_if(true, 10),
+                },
+            }
+        }
+        Ok(())
+    }
+
+    /// Refusals 10 to 13.
+    #[inline(always)]
+    fn judge(&self, memory: &[u8], golden: &[u8], counts: &Counts) -> Judged {
+        refuse_if(self.refusal < 12, self.refusal)?;
+        if self.executes {
+            for i in 0..counts.counted {
+                let b = counts.block(i);
+                refuse_if(word(&counts.scratch[b], X) > 0 && !is_signed(memory, b, golden), 12)?;
+            }
+        }
+        refuse_if(self.refusal < NONE, self.refusal)
+    }
+}
+
+/// Would the counter end below 0 or above its limit?
+#[inline(always)]
+fn taken_overruns(old: u32, count: u32) -> bool {
+    count > 0 && (old < count || old - count > LIMIT)
+}
+
+#[inline(always)]
+fn put_types<V: Level>(ledger: &mut [Record], b: usize, kind: u32) {
+    for record in &mut ledger[b..b + V::BLOCKS as usize] {
+        put_word(record, TYPE, kind);
+    }
+}
+
+#[inline(always)]
+fn create<V: Level>(
+    memory: &[u8],
+    ledger: &mut [u8],
+    golden: &[u8],
+    scratch: &mut [u8],
+    region: Region,
+    block: u32,
+    b: usize,
+) -> Judged {
+    let ledger = records_mut(ledger);
+    let own = &ledger[b..b + V::BLOCKS as usize];
+    refuse_if(own.iter().any(|record| word(record, TYPE) != DATA), 5)?;
+    refuse_if(own.iter().any(|record| word(record, W) | word(record, X) | word(record, L) != 0), 6)?;
+    let mut counts = Counts { scratch: scratch.as_chunks_mut().0, counted: 0 };
+    let mut new = New { refusal: NONE, executes: false };
+    let judged =
+        new.count::<V>(memory, ledger, region, block, b, &mut counts).and_then(|()| new.judge(memory, golden, &counts));
+    if judged.is_err() {
+        counts.clear();
+        return judged;
+    }
+    for i in 0..counts.counted {
+        let t = counts.block(i);
+        let (count, record) = (&mut counts.scratch[t], &mut ledger[t]);
+        for k in [W, X, L] {
+            let sum = word(record, k) + word(count, k);
+            put_word(record, k, sum);
+            put_word(count, k, 0);
+        }
+    }
+    put_types::<V>(ledger, b, V::TYPE);
+    Ok(())
+}
+
+#[inline(always)]
+fn judge_create_l1(memory: &[u8], ledger: &mut [u8], golden: &[u8], scratch: &mut [u8], block: u32) -> Judged {
+    let region = Region::stored(memory, ledger)?;
+    judge_image(golden)?;
+    let b = region.l1_place(block)?;
+    create::<Sections>(memory, ledger, golden, scratch, region, block, b)
+}
+
+#[inline(always)]
+fn judge_create_l2(memory: &[u8], ledger: &mut [u8], golden: &[u8], scratch: &mut [u8], block: u32) -> Judged {
+    let region = Region::stored(memory, ledger)?;
+    judge_image(golden)?;
+    let b = region.place(block, 1).ok_or(2u32)?;
+    create::<Pages>(memory, ledger, golden, scratch, region, block, b)
+}
+
+#[inline(never)]
+pub fn create_l1(memory: &[u8], ledger: &mut [u8], golden: &[u8], scratch: &mut [u8], block: u32) -> u32 {
+    answer(judge_create_l1(memory, ledger, golden, scratch, block))
+}
+
+#[inline(never)]
+pub fn create_l2(memory: &[u8], ledger: &mut [u8], golden: &[u8], scratch: &mut [u8], block: u32) -> u32 {
+    answer(judge_create_l2(memory, ledger, golden, scratch, block))
+}
+
+/// Refusals 8 and 10 of an old table's entries, which are counted on the way.
+#[inline(always)]
+fn count_old<V: Level>(memory: &[u8], region: Region, b: usize, counts: &mut Counts) -> Judged {
+    let mut inside = true;
+    for word in table_words::<V>(memory, b) {
+        match V::entry(word) {
+            Entry::Fault => {}
+            Entry::Unaccepted => return Err(8),
+            Entry::Link(place) => match region.place(place / 4, 1) {
+                Some(t) => _ = counts.add(t, L),
+                None => inside = false,
+            },
+            Entry::Mapping(first, m, rights) => match region.place(first, m) {
+                Some(t) => {
+                    for (right, k) in [(WRITE, W), (EXECUTE, X)] {
+                        if rights & right != 0 {
+                            (t..t + m as usize).for_each(|t| _ = counts.add(t, k));
+                        }
+                    }
+                }
+                None => inside = false,
+            },
+        }
+    }
+    refuse_if(!inside, 10)
+}
+
+/// Refusal 13 of the counted blocks.
+#[inline(always)]
+fn judge_taken(ledger: &[Record], counts: &Counts) -> Judged {
+    for i in 0..counts.counted {
+        let b = counts.block(i);
+        let (count, record) = (&counts.scratch[b], &ledger[b]);
+        let overruns = |k: usize| taken_overruns(word(record, k), word(count, k));
+        refuse_if(overruns(W) || overruns(X) || overruns(L), 13)?;
+    }
+    Ok(())
+}
+
+#[inline(always)]
+fn free<V: Level>(memory: &[u8], ledger: &mut [u8], scratch: &mut [u8], region: Region, b: usize) -> Judged {
+    let ledger = records_mut(ledger);
+    let mut counts = Counts { scratch: scratch.as_chunks_mut().0, counted: 0 };
+    let judged = count_old::<V>(memory, region, b, &mut counts).and_then(|()| judge_taken(ledger, &counts));
+    if judged.is_err() {
+        counts.clear();
+        return judged;
+    }
+    for i in 0..counts.counted {
+        let t = counts.block(i);
+        let (count, record) = (&mut counts.scratch[t], &mut ledger[t]);
+        for k in [W, X, L] {
+            let rest = word(record, k) - word(count, k);
+            put_word(record, k, rest);
+            put_word(count, k, 0);
+        }
+    }
+    put_types::<V>(ledger, b, DATA);
+    Ok(())
+}
+
+#[inline(always)]
+fn judge_free_l1(memory: &[u8], ledger: &mut [u8], scratch: &mut [u8], block: u32) -> Judged {
+    let region = Region::stored(memory, ledger)?;
+    let b = region.l1_place(block)?;
+    judge_l1_types(ledger, b)?;
+    refuse_if(word(ledger, 4) == block, 6)?;
+    free::<Sections>(memory, ledger, scratch, region, b)
+}
+
+#[inline(always)]
+fn judge_free_l2(memory: &[u8], ledger: &mut [u8], scratch: &mut [u8], block: u32) -> Judged {
+    let region = Region::stored(memory, ledger)?;
+    let b = region.place(block, 1).ok_or(2u32)?;
+    let own = &records(ledger)[b];
+    refuse_if(word(own, TYPE) != L2, 5)?;
+    refuse_if(word(own, L) > 0, 6)?;
+    free::<Pages>(memory, ledger, scratch, region, b)
+}
+
+#[inline(never)]
+pub fn free_l1(memory: &[u8], ledger: &mut [u8], scratch: &mut [u8], block: u32) -> u32 {
+    answer(judge_free_l1(memory, ledger, scratch, block))
+}
+
+#[inline(never)]
+pub fn free_l2(memory: &[u8], ledger: &mut [u8], scratch: &mut [u8], block: u32) -> u32 {
+    answer(judge_free_l2(memory, ledger, scratch, block))
+}
+
+#[inline(always)]
+fn judge_l1_types(ledger: &[u8], b: usize) -> Judged {
+    refuse_if(records(ledger)[b..b + L1_BLOCKS as usize].iter().any(|record| word(record, TYPE) != L1), 5)
+}
+
+/// The place in memory of an L1 entry: refusals 2, 3, 4, 5 and 7.
+#[inline(always)]
+fn l1_slot(region: Region, ledger: &[u8], block: u32, index: u32, aligned: bool, table: u32) -> Judged<usize> {
+    let b = region.l1_place(block)?;
+    refuse_if(!aligned, 3)?;
+    refuse_if(index > 4095 || table > 3, 4)?;
+    judge_l1_types(ledger, b)?;
+    refuse_if(word(&records(ledger)[b + index as usize / 1024], X) > 0, 7)?;
+    Ok(BLOCK * b + 4 * index as usize)
+}
+
+/// The place in memory of an L2 entry: refusals 2, 4, 5 and 7.
+#[inline(always)]
+fn l2_slot(region: Region, ledger: &[u8], block: u32, index: u32) -> Judged<usize> {
+    let b = region.place(block, 1).ok_or(2u32)?;
+    refuse_if(index > 1023, 4)?;
+    let holder = &records(ledger)[b];
+    refuse_if(word(holder, TYPE) != L2, 5)?;
+    refuse_if(word(holder, X) > 0, 7)?;
+    Ok(BLOCK * b + 4 * index as usize)
+}
+
+/// Refusals 8 and 9 of a new mapping.
+#[inline(always)]
+fn judge_request(memory: &[u8], at: usize, rights: u32) -> Judged {
+    refuse_if(word(memory, at) & 3 != 0, 8)?;
+    refuse_if(rights > 7 || (rights & READ == 0 && rights != 0), 9)
+}
+
+/// By the rights 0, 1, 3 and 5.
+const SECTION_BITS: [u32; 8] = [0x41E, 0x81E, 0, 0xC1E, 0, 0x80E, 0, 0];
+const PAGE_BITS: [u32; 8] = [0x01F, 0x02F, 0, 0x03F, 0, 0x02E, 0, 0];
+
+#[inline(always)]
+fn judge_map_l1(
+    memory: &mut [u8],
+    ledger: &mut [u8],
+    golden: &[u8],
+    block: u32,
+    index: u32,
+    target: u32,
+    rights: u32,
+) -> Judged {
+    let region = Region::stored(memory, ledger)?;
+    judge_image(golden)?;
+    let at = l1_slot(region, ledger, block, index, target % SECTION_BLOCKS == 0, 0)?;
+    judge_request(memory, at, rights)?;
+    let t = region.place(target, SECTION_BLOCKS).ok_or(10u32)?;
+    let target_records = section_records(ledger, t);
+    if rights & WRITE != 0 {
+        let (mut types, mut executed, mut most) = (0, 0, 0);
+        for record in target_records {
+            types |= word(record, TYPE);
+            executed |= word(record, X);
+            most = word(record, W).max(most);
+        }
+        refuse_if(types != DATA, 10)?;
+        refuse_if(rights & EXECUTE != 0 || executed != 0, 11)?;
+        refuse_if(most >= LIMIT, 13)?;
+        change_section(ledger, t, W, 1);
+    } else if rights & EXECUTE != 0 {
+        let holder = block + index / 1024;
+        refuse_if((target..target + SECTION_BLOCKS).contains(&holder), 10)?;
+        refuse_if(target_records.iter().any(|record| word(record, W) > 0), 11)?;
+        refuse_if((t..t + SECTION_BLOCKS as usize).any(|b| !is_signed(memory, b, golden)), 12)?;
+        refuse_if(target_records.iter().any(|record| word(record, X) >= LIMIT), 13)?;
+        change_section(ledger, t, X, 1);
+    }
+    put_word(memory, at, target << 12 | SECTION_BITS[rights as usize]);
+    Ok(())
+}
+
+/// Adds to a word of the records of a section's blocks, modulo 2^32.
+#[inline(always)]
+fn change_section(ledger: &mut [u8], t: usize, k: usize, change: u32) {
+    for record in &mut records_mut(ledger)[t..t + SECTION_BLOCKS as usize] {
+        let changed = word(record, k).wrapping_add(change);
+        put_word(record, k, changed);
+    }
+}
+
+#[inline(always)]
+fn judge_map_l2(
+    memory: &mut [u8],
+    ledger: &mut [u8],
+    golden: &[u8],
+    block: u32,
+    index: u32,
+    target: u32,
+    rights: u32,
+) -> Judged {
+    let region = Region::stored(memory, ledger)?;
+    judge_image(golden)?;
+    let at = l2_slot(region, ledger, block, index)?;
+    judge_request(memory, at, rights)?;
+    let t = region.place(target, 1).ok_or(10u32)?;
+    let record = &mut records_mut(ledger)[t];
+    let (w, x) = (word(record, W), word(record, X));
+    if rights & WRITE != 0 {
+        refuse_if(word(record, TYPE) != DATA, 10)?;
+        refuse_if(rights & EXECUTE != 0 || x > 0, 11)?;
+        refuse_if(w >= LIMIT, 13)?;
+        put_word(record, W, w + 1);
+    } else if rights & EXECUTE != 0 {
+        refuse_if(target == block, 10)?;
+        refuse_if(w > 0, 11)?;
+        refuse_if(!is_signed(memory, t, golden), 12)?;
+        refuse_if(x >= LIMIT, 13)?;
+        put_word(record, X, x + 1);
+    }
+    put_word(memory, at, target << 12 | PAGE_BITS[rights as usize]);
+    Ok(())
+}
+
+#[inline(never)]
+pub fn map_l1(
+    memory: &mut [u8],
+    ledger: &mut [u8],
+    golden: &[u8],
+    block: u32,
+    index: u32,
+    target: u32,
+    rights: u32,
+) -> u32 {
+    answer(judge_map_l1(memory, ledger, golden, block, index, target, rights))
+}
+
+#[inline(never)]
+pub fn map_l2(
+    memory: &mut [u8],
+    ledger: &mut [u8],
+    golden: &[u8],
+    block: u32,
+    index: u32,
+    target: u32,
+    rights: u32,
+) -> u32 {
+    answer(judge_map_l2(memory, ledger, golden, block, index, target, rights))
+}
+
+#[inline(always)]
+fn judge_link(memory: &mut [u8], ledger: &mut [u8], block: u32, index: u32, target: u32, table: u32) -> Judged {
+    let region = Region::stored(memory, ledger)?;
+    let at = l1_slot(region, ledger, block, index, true, table)?;
+    refuse_if(word(memory, at) & 3 != 0, 8)?;
+    let t = region.place(target, 1).ok_or(10u32)?;
+    let record = &mut records_mut(ledger)[t];
+    let l = word(record, L);
+    refuse_if(word(record, TYPE) != L2, 10)?;
+    refuse_if(l >= LIMIT, 13)?;
+    put_word(record, L, l + 1);
+    put_word(memory, at, target << 12 | table << 10 | 1);
+    Ok(())
+}
+
+#[inline(never)]
+pub fn link(memory: &mut [u8], ledger: &mut [u8], block: u32, index: u32, target: u32, table: u32) -> u32 {
+    answer(judge_link(memory, ledger, block, index, target, table))
+}
+
+#[inline(always)]
+fn judge_unmap_l1(memory: &mut [u8], ledger: &mut [u8], block: u32, index: u32) -> Judged {
+    let region = Region::stored(memory, ledger)?;
+    let at = l1_slot(region, ledger, block, index, true, 0)?;
+    match l1_entry(word(memory, at)) {
+        Entry::Fault => {}
+        Entry::Unaccepted => return Err(8),
+        Entry::Link(place) => {
+            let t = region.place(place / 4, 1).ok_or(10u32)?;
+            let record = &mut records_mut(ledger)[t];
+            let l = word(record, L);
+            refuse_if(taken_overruns(l, 1), 13)?;
+            put_word(record, L, l - 1);
+        }
+        Entry::Mapping(first, m, rights) => {
+            let t = region.place(first, m).ok_or(10u32)?;
+            let counted = [(WRITE, W), (EXECUTE, X)];
+            for (right, k) in counted {
+                let overruns = |record: &Record| taken_overruns(word(record, k), 1);
+                refuse_if(rights & right != 0 && section_records(ledger, t).iter().any(overruns), 13)?;
+            }
+            for (right, k) in counted {
+                if rights & right != 0 {
+                    change_section(ledger, t, k, 1u32.wrapping_neg());
+                }
+            }
+        }
+    }
+    put_word(memory, at, 0);
+    Ok(())
+}
+
+#[inline(always)]
+fn judge_unmap_l2(memory: &mut [u8], ledger: &mut [u8], block: u32, index: u32) -> Judged {
+    let region = Region::stored(memory, ledger)?;
+    let at = l2_slot(region, ledger, block, index)?;
+    match l2_entry(word(memory, at)) {
+        Entry::Mapping(first, _, rights) => {
+            let t = region.place(first, 1).ok_or(10u32)?;
+            let (w, x) = (rights >> 1 & 1, rights >> 2);
+            if w | x != 0 {
+                let record = &mut records_mut(ledger)[t];
+                let (old_w, old_x) = (word(record, W), word(record, X));
+                refuse_if(taken_overruns(old_w, w) | taken_overruns(old_x, x), 13)?;
+                put_word(record, W, old_w - w);
+                put_word(record, X, old_x - x);
+            }
+        }
+        Entry::Fault => {}
+        _ => return Err(8),
+    }
+    put_word(memory, at, 0);
+    Ok(())
+}
+
+#[inline(never)]
+pub fn unmap_l1(memory: &mut [u8], ledger: &mut [u8], block: u32, index: u32) -> u32 {
+    answer(judge_unmap_l1(memory, ledger, block, index))
+}
+
+#[inline(never)]
+pub fn unmap_l2(memory: &mut [u8], ledger: &mut [u8], block: u32, index: u32) -> u32 {
+    answer(judge_unmap_l2(memory, ledger, block, index))
+}
+
+#[inline(always)]
+fn judge_switch(memory: &[u8], ledger: &mut [u8], block: u32) -> Judged {
+    let region = Region::stored(memory, ledger)?;
+    let b = region.l1_place(block)?;
+    judge_l1_types(ledger, b)?;
+    put_word(ledger, 4, block);
+    Ok(())
+}
+
+#[inline(never)]
+pub fn switch(memory: &[u8], ledger: &mut [u8], block: u32) -> u32 {
+    answer(judge_switch(memory, ledger, block))
+}
+
+/// The place in memory to which the address leads, if all rights are there.
+#[inline(always)]
+fn walk(memory: &[u8], ledger: &[u8], address: u32, needed: u32) -> Judged<usize> {
+    let region = Region::stored(memory, ledger)?;
+    let active = word(ledger, 4);
+    let table = region.place(active, L1_BLOCKS).filter(|_| active % L1_BLOCKS == 0).ok_or(21u32)?;
+    let index = (address >> 20) as usize;
+    let (b, rights) = match l1_entry(word(memory, BLOCK * table + 4 * index)) {
+        Entry::Fault => return Err(22),
+        Entry::Unaccepted => return Err(24),
+        Entry::Mapping(first, m, rights) => {
+            let b = region.place(first, m).ok_or(24u32)?;
+            (b + (address as usize >> 12) % 256, rights)
+        }
+        Entry::Link(place) => {
+            let b = region.place(place / 4, 1).ok_or(24u32)?;
+            let at = BLOCK * b + 1024 * (place as usize % 4) + 4 * ((address as usize >> 12) % 256);
+            match l2_entry(word(memory, at)) {
+                Entry::Fault => return Err(22),
+                Entry::Mapping(first, m, rights) => (region.place(first, m).ok_or(24u32)?, rights),
+                _ => return Err(24),
+            }
+        }
+    };
+    refuse_if(rights & needed == 0, 23)?;
+    Ok(BLOCK * b + address as usize % BLOCK)
+}
+
+#[inline(always)]
+fn load(memory: &[u8], ledger: &[u8], address: u32, needed: u32, byte: &mut u8) -> u32 {
+    match walk(memory, ledger, address, needed) {
+        Ok(at) => {
+            *byte = memory[at];
+            0
+        }
+        Err(number) => {
+            *byte = 0;
+            number
+        }
+    }
+}
+
+#[inline(never)]
+pub fn read(memory: &[u8], ledger: &[u8], address: u32, byte: &mut u8) -> u32 {
+    load(memory, ledger, address, READ, byte)
+}
+
+#[inline(never)]
+pub fn fetch(memory: &[u8], ledger: &[u8], address: u32, byte: &mut u8) -> u32 {
+    load(memory, ledger, address, EXECUTE, byte)
+}
+
+#[inline(never)]
+pub fn write(memory: &mut [u8], ledger: &[u8], address: u32, byte: u32) -> u32 {
+    match walk(memory, ledger, address, WRITE) {
+        Ok(at) => {
+            memory[at] = byte as u8;
+            0
+        }
+        Err(number) => number,
+    }
+}

@@ -1,0 +1,190 @@
+//! The two programs do the same: answers, bytes given, memory and ledger, for every workload and for random calls.
+use crate::program::{Buffers, Kind, Monitor, Plain, Program, KINDS};
+use crate::random::Random;
+use crate::sha256::sha256;
+use crate::workloads::{Batch, BLOCK};
+use std::collections::BTreeSet;
+
+fn given<P: Program>(kind: Kind, words: &[[u32; 4]], lent: &mut Buffers) -> Vec<(u32, u8)> {
+    let mut all = Vec::new();
+    P::batch(kind, words, lent, |answer, byte| all.push((answer, byte)));
+    all
+}
+
+/// Makes the calls with both programs on equal buffers, and gives what both gave.
+fn both(kind: Kind, words: &[[u32; 4]], lent: &mut Buffers) -> Vec<(u32, u8)> {
+    let mut other = lent.clone();
+    let ours = given::<Monitor>(kind, words, lent);
+    let plain = given::<Plain>(kind, words, &mut other);
+    assert!(ours == plain, "{kind:?} {words:x?}: the monitor gives {ours:?}, the plain program {plain:?}");
+    assert!(lent.memory == other.memory, "{kind:?} {words:x?}: the memory differs");
+    assert!(lent.ledger == other.ledger, "{kind:?} {words:x?}: the ledger differs");
+    let cleared = other.scratch.chunks_exact(16).all(|record| record[4..] == [0; 12]);
+    assert!(cleared, "{kind:?} {words:x?}: counts are left in the scratch bytes");
+    ours
+}
+
+pub fn check_workload(name: &str, batch: &Batch, lent: &Buffers) {
+    let all = both(batch.kind, &batch.words, &mut lent.clone());
+    assert!(all.iter().all(|(answer, _)| *answer == batch.answer), "{name}: other answers than {}", batch.answer);
+}
+
+/// The indices that are used.
+const L1_INDICES: [u32; 5] = [0, 1, 2, 1024, 4095];
+const L2_INDICES: [u32; 5] = [0, 1, 255, 256, 1023];
+
+/// Calls drawn at random, on a memory and a ledger into which odd words are put on the way.
+struct Drawn {
+    random: Random,
+    lent: Buffers,
+    first: u32,
+    blocks: usize,
+}
+
+impl Drawn {
+    fn new(seed: u64, blocks: usize) -> Drawn {
+        let lent = Buffers {
+            memory: vec![0; BLOCK * blocks],
+            ledger: vec![0; 8 + 16 * blocks],
+            golden: [sha256(&[0; BLOCK]), [7; 32]].concat(),
+            scratch: vec![0; 16 * blocks],
+        };
+        let mut random = Random(seed);
+        let first = 256 * random.below(4) as u32;
+        let mut drawn = Drawn { random, lent, first, blocks };
+        both(Kind::Begin, &[[first, 0, 0, 0]], &mut drawn.lent);
+        drawn
+    }
+
+    /// A block near the region's start or end, or any number.
+    fn block(&mut self) -> u32 {
+        let near = self.first + self.random.below(self.blocks.min(24)) as u32;
+        let last = self.first + self.blocks as u32 - 1 - self.random.below(5) as u32;
+        let any = self.random.next() as u32 >> self.random.below(32);
+        self.random.one_of(&[near, near, near, near, near, last, last, any])
+    }
+
+    /// A block at which an L1 table may stand, or any other.
+    fn l1_table(&mut self) -> u32 {
+        let other = self.block();
+        self.random.one_of(&[self.first, self.first, self.first, self.first, self.first + 8, other])
+    }
+
+    /// A block that may be an L2 block, or any other.
+    fn l2_block(&mut self) -> u32 {
+        let (some, other) = (self.first + 4 + self.random.below(3) as u32, self.block());
+        self.random.one_of(&[some, some, some, some, other])
+    }
+
+    fn section(&mut self) -> u32 {
+        let other = self.block();
+        self.random.one_of(&[self.first, self.first + 256, self.first + 256, self.first + 512, other])
+    }
+
+    fn l1_word(&mut self) -> u32 {
+        let low = self.random.one_of(&[0x41E, 0x81E, 0xC1E, 0xC1E, 0x80E, 0xC0E]);
+        match self.random.below(20) {
+            0..=7 => self.l2_block() << 12 | self.random.below(4) as u32 * 1024 | 1,
+            8..=13 => self.section() >> 8 << 20 | low,
+            14..=18 => 0,
+            _ => self.random.next() as u32,
+        }
+    }
+
+    fn l2_word(&mut self) -> u32 {
+        let low = self.random.one_of(&[0x01F, 0x02F, 0x02F, 0x03F, 0x03F, 0x02E, 0x03E]);
+        match self.random.below(20) {
+            0..=13 => self.block() << 12 | low,
+            14..=18 => 0,
+            _ => self.random.next() as u32,
+        }
+    }
+
+    /// An entry at an index that calls use too.
+    fn poke_memory(&mut self) {
+        let (at, word) = if self.random.below(2) == 0 {
+            (self.random.one_of(&L1_INDICES) as usize, self.l1_word())
+        } else {
+            (1024 * (4 + self.random.below(3)) + self.random.one_of(&L2_INDICES) as usize, self.l2_word())
+        };
+        self.lent.memory[4 * at..4 * at + 4].copy_from_slice(&word.to_le_bytes());
+    }
+
+    /// A word of a record, or now and then the first block or the active table.
+    fn poke_ledger(&mut self) {
+        let near = 2 + self.random.below(4 * self.blocks.min(16));
+        let last = self.lent.ledger.len() / 4 - 1 - self.random.below(4);
+        let at = match self.random.below(20) {
+            0 => self.random.below(2),
+            1..=4 => last,
+            _ => near,
+        };
+        let limit = 1 << 22;
+        let odd = [0, 0, 0, 0, 0, 1, 1, 2, 3, limit - 1, limit, limit, limit + 1, limit + 2, u32::MAX, self.first];
+        let word = if at == 0 { self.random.one_of(&[self.first, self.first, 1]) } else { self.random.one_of(&odd) };
+        self.lent.ledger[4 * at..4 * at + 4].copy_from_slice(&word.to_le_bytes());
+    }
+
+    fn words(&mut self, kind: Kind) -> [u32; 4] {
+        let rights = self.random.one_of(&[0, 1, 3, 3, 3, 5, 5, 7, 2, 8]);
+        let (l1_index, l2_index) = (self.random.one_of(&L1_INDICES), self.random.one_of(&L2_INDICES));
+        let beyond = u32::from(self.random.below(20) == 0);
+        match kind {
+            Kind::Begin => [self.random.one_of(&[0, 256, 512, 768, 1, 0xFFF00, 0xFFFFFF00]), 0, 0, 0],
+            Kind::CreateL1 | Kind::FreeL1 | Kind::Switch => [self.l1_table(), 0, 0, 0],
+            Kind::CreateL2 | Kind::FreeL2 => [self.l2_block(), 0, 0, 0],
+            Kind::MapL1 => [self.l1_table(), l1_index + 4096 * beyond, self.section(), rights],
+            Kind::MapL2 => [self.l2_block(), l2_index + 1024 * beyond, self.block(), rights],
+            Kind::Link => [self.l1_table(), l1_index, self.l2_block(), self.random.below(4) as u32 + 4 * beyond],
+            Kind::UnmapL1 => [self.l1_table(), l1_index + 4096 * beyond, 0, 0],
+            Kind::UnmapL2 => [self.l2_block(), l2_index + 1024 * beyond, 0, 0],
+            Kind::Read | Kind::Write | Kind::Fetch => {
+                let address = l1_index << 20 | (l2_index % 256) << 12 | self.random.below(4096) as u32;
+                [address, self.random.next() as u32, 0, 0]
+            }
+        }
+    }
+
+    /// One call, at times with a buffer of another length.
+    fn call(&mut self, kind: Kind) -> u32 {
+        let words = [self.words(kind)];
+        if self.random.below(50) > 0 {
+            let (answer, _) = both(kind, &words, &mut self.lent)[0];
+            if kind == Kind::Begin && answer == 0 {
+                self.first = words[0][0];
+            }
+            return answer;
+        }
+        let mut lent = self.lent.clone();
+        match self.random.below(4) {
+            0 => lent.memory.truncate(BLOCK * self.random.below(9) + self.random.below(2)),
+            1 => lent.ledger.push(0),
+            2 => lent.ledger.truncate(self.random.below(9)),
+            _ => lent.golden.push(0),
+        }
+        both(kind, &words, &mut lent)[0].0
+    }
+}
+
+/// Compares random calls, and gives the number of pairs of a kind of call and an answer among them.
+pub fn check_random(calls: usize) -> usize {
+    let sizes = [8, 12, 24, 260, 512, 512];
+    let lists = 8;
+    let mut pairs = BTreeSet::new();
+    for (seed, blocks) in sizes.into_iter().enumerate() {
+        for list in 0..lists {
+            let mut drawn = Drawn::new(100 * seed as u64 + list, blocks);
+            for _ in 0..calls / sizes.len() / lists as usize {
+                if drawn.random.below(4) == 0 {
+                    drawn.poke_memory();
+                }
+                if list % 2 == 1 && drawn.random.below(4) == 0 {
+                    drawn.poke_ledger();
+                }
+                let kind = if drawn.random.below(100) == 0 { Kind::Begin } else { drawn.random.one_of(&KINDS[1..]) };
+                pairs.insert((kind, drawn.call(kind)));
+            }
+        }
+    }
+    pairs.len()
+}

@@ -1,0 +1,315 @@
+//! What is measured: a prepared memory and ledger, and a batch of calls of one kind, all with the same answer.
+use crate::program::{Buffers, Kind, Plain, Program};
+use crate::random::Random;
+use crate::sha256::sha256;
+use Kind::*;
+
+pub const BLOCK: usize = 4096;
+const RECORD: usize = 16;
+
+/// The region's first block.
+pub const FIRST: u32 = 0x1000;
+
+/// The tables of every workload lie in these blocks, the data behind them.
+pub const TABLE_BLOCKS: usize = 16;
+const L1_TABLE: u32 = FIRST;
+const OTHER_L1_TABLE: u32 = FIRST + 4;
+const L2_BLOCK: u32 = FIRST + 8;
+const OTHER_L2_BLOCK: u32 = FIRST + 9;
+const DATA: u32 = FIRST + TABLE_BLOCKS as u32;
+
+const SECTION_BLOCKS: usize = 256;
+const READ_ONLY: u32 = 1;
+const READ_WRITE: u32 = 3;
+const READ_EXECUTE: u32 = 5;
+
+/// The calls of a batch of cheap ones, the pages that a guest's accesses go to, and the executable targets.
+const MANY: u32 = 1024;
+const GUEST_PAGES: u32 = 32;
+const TARGETS: u32 = 64;
+
+pub struct Batch {
+    pub kind: Kind,
+    pub words: Vec<[u32; 4]>,
+    /// The answer of each of its calls.
+    pub answer: u32,
+}
+
+pub struct Workload {
+    pub name: &'static str,
+    /// The smallest region in which it can be made, in blocks.
+    pub least: usize,
+    pub make: fn(&mut Scene) -> Batch,
+}
+
+/// Lent buffers on the way to a workload's start.
+pub struct Scene {
+    pub lent: Buffers,
+    pub blocks: usize,
+}
+
+impl Scene {
+    /// A memory of zeros after begin, and an empty golden image.
+    pub fn new(blocks: usize) -> Scene {
+        let lent = Buffers {
+            memory: vec![0; BLOCK * blocks],
+            ledger: vec![0; 8 + RECORD * blocks],
+            golden: Vec::new(),
+            scratch: vec![0; RECORD * blocks],
+        };
+        let mut scene = Scene { lent, blocks };
+        scene.accepted(Begin, &[[FIRST, 0, 0, 0]]);
+        scene
+    }
+
+    fn accepted(&mut self, kind: Kind, words: &[[u32; 4]]) {
+        Plain::batch(kind, words, &mut self.lent, |answer, _| assert!(answer == 0, "{kind:?} answers {answer}"));
+    }
+
+    fn put_entry(&mut self, block: u32, index: u32, word: u32) {
+        let at = BLOCK * (block - FIRST) as usize + 4 * index as usize;
+        self.lent.memory[at..at + 4].copy_from_slice(&word.to_le_bytes());
+    }
+
+    /// The i-th data block, from the first again after the last.
+    fn data(&self, i: u32) -> u32 {
+        DATA + i % (self.blocks - TABLE_BLOCKS) as u32
+    }
+
+    /// The i-th section without tables.
+    fn section(&self, i: u32) -> u32 {
+        FIRST + SECTION_BLOCKS as u32 * (1 + i % (self.blocks / SECTION_BLOCKS - 1) as u32)
+    }
+
+    fn tables(&mut self) {
+        self.accepted(CreateL1, &[[L1_TABLE, 0, 0, 0], [OTHER_L1_TABLE, 0, 0, 0]]);
+        self.accepted(CreateL2, &[[L2_BLOCK, 0, 0, 0], [OTHER_L2_BLOCK, 0, 0, 0]]);
+    }
+
+    /// Different contents of the executable targets, and an image of 1,024 digests with theirs at its end.
+    fn sign_targets(&mut self) {
+        let others = (0..1024 - TARGETS).flat_map(|i| sha256(&[i as u8; 64]));
+        self.lent.golden = others.collect();
+        for i in 0..TARGETS {
+            let at = BLOCK * (DATA - FIRST + i) as usize;
+            let block = &mut self.lent.memory[at..at + BLOCK];
+            block.fill(i as u8 + 1);
+            let digest = sha256(block);
+            self.lent.golden.extend(digest);
+        }
+    }
+
+    /// Pages through which a guest reaches data blocks, in the active table.
+    fn guest_pages(&mut self, rights: u32) {
+        self.tables();
+        self.accepted(Link, &[[L1_TABLE, 0, L2_BLOCK, 0]]);
+        self.lent.golden = sha256(&[0; BLOCK]).to_vec();
+        let words: Vec<_> = (0..GUEST_PAGES).map(|i| [L2_BLOCK, i, DATA + i, rights]).collect();
+        self.accepted(MapL2, &words);
+        self.accepted(Switch, &[[L1_TABLE, 0, 0, 0]]);
+    }
+
+    fn written_pages(&mut self) {
+        for i in 0..1024 {
+            self.put_entry(L2_BLOCK, i, self.data(i) << 12 | 0x03F);
+        }
+    }
+
+    /// Pages of all memory kinds that give nothing, read, or read and write, in no order.
+    fn written_mixed_pages(&mut self) {
+        let mut random = Random(1);
+        for i in 0..1024 {
+            let access = random.one_of(&[0x013, 0x023, 0x033, 0x213, 0x223, 0x233]);
+            let kind = random.next() as u32 & 0x1CC;
+            self.put_entry(L2_BLOCK, i, self.data(i) << 12 | kind | access);
+        }
+    }
+
+    fn written_sections_and_links(&mut self) {
+        self.accepted(CreateL2, &[[L2_BLOCK, 0, 0, 0]]);
+        for i in 0..16 {
+            let section = FIRST + SECTION_BLOCKS as u32 * (i % (self.blocks / SECTION_BLOCKS) as u32);
+            self.put_entry(L1_TABLE, 16 * i, section << 12 | 0x81E);
+        }
+        for i in 0..64 {
+            self.put_entry(L1_TABLE, 1024 + i, (4 * L2_BLOCK + i % 4) << 10 | 1);
+        }
+    }
+
+    fn written_targets(&mut self) {
+        self.sign_targets();
+        for i in 0..TARGETS {
+            self.put_entry(L2_BLOCK, i, (DATA + i) << 12 | 0x02E);
+        }
+    }
+}
+
+/// A batch of accepted calls.
+fn accepted(kind: Kind, words: Vec<[u32; 4]>) -> Batch {
+    Batch { kind, words, answer: 0 }
+}
+
+/// The addresses of a guest's accesses.
+fn guest_addresses() -> Vec<[u32; 4]> {
+    (0..MANY).map(|i| [(i % GUEST_PAGES) << 12 | (97 * i) % 4096, i, 0, 0]).collect()
+}
+
+fn page_maps(scene: &Scene) -> Vec<[u32; 4]> {
+    (0..1024).map(|i| [L2_BLOCK, i, scene.data(i), READ_WRITE]).collect()
+}
+
+fn section_maps(scene: &Scene) -> Vec<[u32; 4]> {
+    (0..64).map(|i| [L1_TABLE, i, scene.section(i), READ_WRITE]).collect()
+}
+
+fn links() -> Vec<[u32; 4]> {
+    (0..MANY).map(|i| [L1_TABLE, 4 * i, L2_BLOCK, i % 4]).collect()
+}
+
+const fn workload(name: &'static str, least: usize, make: fn(&mut Scene) -> Batch) -> Workload {
+    Workload { name, least, make }
+}
+
+/// Calls that hash nothing.
+pub static CALLS: [Workload; 30] = [
+    workload("begin", 64, |_| accepted(Begin, vec![[FIRST, 0, 0, 0]; 64])),
+    workload("create L1, empty", 64, |_| accepted(CreateL1, vec![[L1_TABLE, 0, 0, 0]])),
+    workload("create L1, 16 sections, 64 links", 512, |scene| {
+        scene.written_sections_and_links();
+        accepted(CreateL1, vec![[L1_TABLE, 0, 0, 0]])
+    }),
+    workload("create L2, empty", 64, |_| accepted(CreateL2, vec![[L2_BLOCK, 0, 0, 0]])),
+    workload("create L2, 1,024 writable pages", 64, |scene| {
+        scene.written_pages();
+        accepted(CreateL2, vec![[L2_BLOCK, 0, 0, 0]])
+    }),
+    workload("create L2, 1,024 mixed pages", 64, |scene| {
+        scene.written_mixed_pages();
+        accepted(CreateL2, vec![[L2_BLOCK, 0, 0, 0]])
+    }),
+    workload("free L1, empty", 64, |scene| {
+        scene.tables();
+        accepted(FreeL1, vec![[L1_TABLE, 0, 0, 0]])
+    }),
+    workload("free L1, 16 sections, 64 links", 512, |scene| {
+        scene.written_sections_and_links();
+        scene.accepted(CreateL1, &[[L1_TABLE, 0, 0, 0]]);
+        accepted(FreeL1, vec![[L1_TABLE, 0, 0, 0]])
+    }),
+    workload("free L2, empty", 64, |scene| {
+        scene.tables();
+        accepted(FreeL2, vec![[L2_BLOCK, 0, 0, 0]])
+    }),
+    workload("free L2, 1,024 writable pages", 64, |scene| {
+        scene.written_pages();
+        scene.accepted(CreateL2, &[[L2_BLOCK, 0, 0, 0]]);
+        accepted(FreeL2, vec![[L2_BLOCK, 0, 0, 0]])
+    }),
+    workload("map L1, writable section", 512, |scene| {
+        scene.tables();
+        accepted(MapL1, section_maps(scene))
+    }),
+    workload("map L1, read-only section", 512, |scene| {
+        scene.tables();
+        accepted(MapL1, (0..MANY).map(|i| [L1_TABLE, 4 * i, scene.section(i), READ_ONLY]).collect())
+    }),
+    workload("map L2, writable page", 64, |scene| {
+        scene.tables();
+        accepted(MapL2, page_maps(scene))
+    }),
+    workload("map L2, read-only page", 64, |scene| {
+        scene.tables();
+        accepted(MapL2, (0..1024).map(|i| [L2_BLOCK, i, scene.data(i), READ_ONLY]).collect())
+    }),
+    workload("link", 64, |scene| {
+        scene.tables();
+        accepted(Link, links())
+    }),
+    workload("unmap L1, writable section", 512, |scene| {
+        scene.tables();
+        let maps = section_maps(scene);
+        scene.accepted(MapL1, &maps);
+        accepted(UnmapL1, maps)
+    }),
+    workload("unmap L1, link", 64, |scene| {
+        scene.tables();
+        scene.accepted(Link, &links());
+        accepted(UnmapL1, links())
+    }),
+    workload("unmap L2, writable page", 64, |scene| {
+        scene.tables();
+        let maps = page_maps(scene);
+        scene.accepted(MapL2, &maps);
+        accepted(UnmapL2, maps)
+    }),
+    workload("unmap L2, fault", 64, |scene| {
+        scene.tables();
+        accepted(UnmapL2, page_maps(scene))
+    }),
+    workload("switch", 64, |scene| {
+        scene.tables();
+        accepted(Switch, (0..MANY).map(|i| [L1_TABLE + 4 * (i % 2), 0, 0, 0]).collect())
+    }),
+    workload("read, page", 64, |scene| {
+        scene.guest_pages(READ_WRITE);
+        accepted(Read, guest_addresses())
+    }),
+    workload("read, section", 512, |scene| {
+        scene.tables();
+        scene.accepted(MapL1, &[[L1_TABLE, 0, FIRST, READ_ONLY]]);
+        scene.accepted(Switch, &[[L1_TABLE, 0, 0, 0]]);
+        accepted(Read, guest_addresses())
+    }),
+    workload("write, page", 64, |scene| {
+        scene.guest_pages(READ_WRITE);
+        accepted(Write, guest_addresses())
+    }),
+    workload("fetch, page", 64, |scene| {
+        scene.guest_pages(READ_EXECUTE);
+        accepted(Fetch, guest_addresses())
+    }),
+    workload("map L2, refusal 2", 64, |scene| {
+        scene.tables();
+        let words = (0..MANY).map(|i| [FIRST - 1 - i, i, DATA, READ_WRITE]).collect();
+        Batch { kind: MapL2, words, answer: 2 }
+    }),
+    workload("map L2, refusal 11", 64, |scene| {
+        scene.guest_pages(READ_EXECUTE);
+        let words = (0..MANY).map(|i| [OTHER_L2_BLOCK, i, DATA + i % GUEST_PAGES, READ_WRITE]).collect();
+        Batch { kind: MapL2, words, answer: 11 }
+    }),
+    workload("create L2, refusal 2", 64, |_| {
+        let words = (0..MANY).map(|i| [FIRST - 1 - i, 0, 0, 0]).collect();
+        Batch { kind: CreateL2, words, answer: 2 }
+    }),
+    workload("create L2, refusal 11 at the last page", 64, |scene| {
+        scene.guest_pages(READ_EXECUTE);
+        let block = FIRST + 10;
+        for i in 0..1023 {
+            scene.put_entry(block, i, (DATA + GUEST_PAGES + i % 16) << 12 | 0x03F);
+        }
+        scene.put_entry(block, 1023, DATA << 12 | 0x03F);
+        Batch { kind: CreateL2, words: vec![[block, 0, 0, 0]; 4], answer: 11 }
+    }),
+    workload("free L2, refusal 6", 64, |scene| {
+        scene.guest_pages(READ_WRITE);
+        Batch { kind: FreeL2, words: vec![[L2_BLOCK, 0, 0, 0]; MANY as usize], answer: 6 }
+    }),
+    workload("read, refusal 23", 64, |scene| {
+        scene.guest_pages(0);
+        Batch { kind: Read, words: guest_addresses(), answer: 23 }
+    }),
+];
+
+/// Calls whose time is that of hashing blocks.
+pub static HASHING_CALLS: [Workload; 2] = [
+    workload("create L2, 64 executable pages", 512, |scene| {
+        scene.written_targets();
+        accepted(CreateL2, vec![[L2_BLOCK, 0, 0, 0]])
+    }),
+    workload("map L2, executable page", 512, |scene| {
+        scene.tables();
+        scene.sign_targets();
+        accepted(MapL2, (0..TARGETS).map(|i| [L2_BLOCK, i, DATA + i, READ_EXECUTE]).collect())
+    }),
+];

@@ -1,0 +1,36 @@
+-- `entries::table::page_rights_at` meets its contract: AP and XN decide the number of a page, and each arm reads a page that has them.
+use mathlib.Core.Path.{_≡_}
+use Prim.Native.Nat.{ℕ}
+use borrow.Author.Needs.{needs}
+use Rattle.words.specs.Bounded.{num}
+use Rattle.entries.specs.Rights.{mayRead, mayWrite, mayExecute, rightsOf}
+use Rattle.entries.specs.Entries.{pageCode}
+use Rattle.entries.proofs.Decoding.{accessCode, pageCode-page}
+use Rattle.entries.proofs.table.page_rights_at.Statement.{statement}
+use Rattle.entries.proofs.table.page_rights_at.Tie as tie
+
+read : (c : tie.After-access-of) (n : ℕ) → c .access-of .result ≡ n → accessCode n ≡ pageCode (c .before .before .args .low)
+read c n e = pageCode-page (c .before .before .args .low) (c .access-of .result) n (c .before .before .pre .1) (c .access-of .ensures) e
+
+pub page-rights-at-spec : {M : Type 1} → statement M
+unfolding accessCode rightsOf mayRead mayWrite mayExecute num
+page-rights-at-spec =
+    tie.close
+    (tie.spec (search needs) (search needs) (search needs) (search needs) (search needs) (search needs) (search needs) (search needs) (search needs) (search needs) (search needs) (search needs) (search needs) (search needs) (search needs) (search needs) (search needs) (search needs)
+    (λ c. read (c .before .before) 0 (c .before .match .keys1))
+    (λ c. read (c .before .before) 1 (c .before .match .keys2))
+    (λ c. read (c .before .before) 2 (c .before .match .keys3))
+    (λ c. read (c .before .before) 3 (c .before .match .keys4))
+    (λ c. read (c .before .before) 4 (c .before .match .keys5))
+    (λ c. read (c .before .before) 5 (c .before .match .keys6))
+    (λ c. read (c .before .before) 6 (c .before .match .keys7))
+    (λ c. read (c .before .before) 7 (c .before .match .keys8))
+    (λ c. read (c .before .before) 8 (c .before .match .keys9))
+    (λ c. read (c .before .before) 9 (c .before .match .keys10))
+    (λ c. read (c .before .before) 10 (c .before .match .keys11))
+    (λ c. read (c .before .before) 11 (c .before .match .keys12))
+    (λ c. read (c .before .before) 12 (c .before .match .keys13))
+    (λ c. read (c .before .before) 13 (c .before .match .keys14))
+    (λ c. read (c .before .before) 14 (c .before .match .keys15))
+    (λ c. read (c .before .before) 15 (c .before .match .keys16))
+    (search needs))
