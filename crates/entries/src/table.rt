@@ -1,6 +1,6 @@
 // The rights of a page by bits 9..0 of its word.
 ghost use mathlib.Core.Path.{_≡_};
-ghost use Prim.Native.Nat.{_*_, _+_, _<_};
+ghost use Prim.Native.Nat.{_+_, _*_, _<_};
 ghost use Rattle.words.specs.Words.{bits};
 ghost use Rattle.entries.specs.Entries.{pageAP, pageCode, pageXN};
 
