@@ -15,6 +15,11 @@ use Rattle.rules.specs.Map.{unfitTarget, clashingTarget, unsignedTarget}
 abbrev pub holderRefusals : Level → Store → ℕ → ℕ → List Refusal
 holderRefusals v s p i = 5 if otherType v s p (typeCode v) ∷ 7 if executableHolder s p i ∷ []
 
+-- the place of an entry
+abbrev pub slotRefusals : Level → Store → ℕ → ℕ → List Refusal
+slotRefusals v s p i =
+    1 if misfit s (base s) ∷ 2 if tableOutside v s p ∷ 3 if misaligned p (tableBlocks v) ∷ 4 if beyondTable v i ∷ holderRefusals v s p i
+
 -- the entry that unmap removes
 abbrev pub removalRefusals : Store → Entry → List Refusal
 removalRefusals s e = 8 if isUnaccepted e ∷ 10 if astray (base s) (blocks s) e ∷ 13 if someOverrun removed s 1 (λ k. e) ∷ []
