@@ -28,6 +28,21 @@ def measure(crate, log):
     )
 
 
+# Definitions to believe: for the fourteen promises and the theorem over lists, beyond that, and what only inner functions owe each other.
+THEOREM = ("words", "signature", "entries", "rules")
+BEYOND = ("steps", "lines", "transcript")
+INNER_FILES = ("entries/specs/Needs.antt",)
+BEYOND_FILES = ("rules/specs/Policies.antt",)
+
+
+def group(name, crate):
+    if name in INNER_FILES:
+        return 2
+    if crate in BEYOND or name in BEYOND_FILES:
+        return 1
+    return 0 if crate in THEOREM else 2
+
+
 def main():
     log = Path(sys.argv[1]).read_text(encoding="utf8") if len(sys.argv) > 1 else ""
     crates = re.findall(r"^(\w+):", (ROOT / "crates.txt").read_text(encoding="utf8"), re.M)
@@ -37,13 +52,20 @@ def main():
     for crate, row in rows.items():
         print(f"| {crate} | " + " | ".join(str(x) for x in row) + " |")
     print("| all | " + " | ".join(str(sum(r[i] for r in rows.values())) for i in range(5)) + " | |")
-    print()
-    print("| definitions to believe | lines |")
-    print("|---|---|")
+    groups = ([], [], [])
     for crate in crates:
         for f in sorted((ROOT / "crates" / crate).glob("specs/**/*.antt")):
+            name = str(f.relative_to(ROOT / "crates"))
             if f.name != "Lib.antt":
-                print(f"| {f.relative_to(ROOT / 'crates')} | {lines([f])} |")
+                groups[group(name, crate)].append((name, lines([f])))
+    titles = ("up to the theorem over lists, the signature included", "for the runner, the program and the policies", "what inner functions owe each other")
+    for title, files in zip(titles, groups):
+        print()
+        print(f"| definitions {title} | lines |")
+        print("|---|---|")
+        for name, count in files:
+            print(f"| {name} | {count} |")
+        print(f"| together | {sum(count for _, count in files)} |")
 
 
 main()
