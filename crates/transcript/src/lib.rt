@@ -39,7 +39,7 @@ fn line_of(call: u8, answer: u32, byte: u8) -> Line
 }
 
 // Stores the lines of the first n records at the start of a text, and gives the place after them.
-pub fn put_lines(records: &[u8], answers: &[u32], bytes: &[u8], n: usize, text: &mut [u8]) -> usize
+fn put_lines(records: &[u8], answers: &[u32], bytes: &[u8], n: usize, text: &mut [u8]) -> usize
     requires { ⌜ recordBytes * n ≤ length (now records) ⌝ }
     requires { ⌜ n ≤ length (now answers) ⌝ }
     requires { ⌜ n ≤ length (now bytes) ⌝ }
