@@ -5,7 +5,7 @@ use mathlib.Core.Logic.{_≢_}
 use mathlib.Core.Path.{_≡_, refl, sym, _∙_}
 use Prim.Native.Nat.{ℕ, zero, suc}
 use Rattle.rules.specs.Refusals.{Refusal, _if_, answerOf}
-use Rattle.rules.specs.Store.{Store, Outcome, settle}
+use Rattle.rules.specs.Store.{Store, settle}
 use Rattle.rules.proofs.Refusals.{decides as decided, Passed, done, step}
 pub use Rattle.rules.proofs.Refusals.{Decides, here, past, none}
 

@@ -1,12 +1,12 @@
 -- Laws of the padded message of FIPS 180-4, 5.1.1: how long it is, and which byte stands where.
-use mathlib.Core.Path.{_≡_, refl, sym, _∙_, ap}
-use mathlib.Core.List.{List, [], _∷_, _++_}
+use mathlib.Core.Path.{_≡_, sym, _∙_, ap}
+use mathlib.Core.List.{List, _∷_, _++_}
 use Prim.Native.Nat.{ℕ, suc, _+_, _-_, _*_, _/_, _%_, _^_, _<_, _≤_}
 use native.Mathlib.Omega.{arith}
 use lib.ListN.{length, getD, take, drop, replicate, length-append, length-drop, length-replicate, getD-replicate, List·getD-append}
 use lib.Pow.{field, mod-mod-pow}
 use lib.Seq.{getD-append-add, getD-append-seam, drop-append-le, take-append-le}
-use Rattle.words.specs.Lists.{part, tabulate}
+use Rattle.words.specs.Lists.{part}
 use Rattle.words.proofs.Lists.{length-tabulate, getD-tabulate}
 use Rattle.signature.specs.Sha256.{bigEndian, zeros, padded}
 

@@ -1,11 +1,10 @@
 -- Laws of the search of a golden image: digests agree byte by byte, and a digest is listed where one agrees whole.
-use mathlib.Core.Path.{_≡_, refl, sym, _∙_, ap}
-use mathlib.Core.Bool.{Bool, true, false, not}
+use mathlib.Core.Path.{_≡_, sym, ap}
+use mathlib.Core.Bool.{true, false, not}
 use mathlib.Core.List.{List}
 use Prim.Native.Nat.{ℕ, _+_, _*_, _/_, _<_}
 use borrow.Author.Tests.{eq-eqb, ne-eqb, not-true}
 use lib.ListN.{length, getD}
-use Rattle.words.specs.Bounded.{any, neqb}
 use Rattle.words.proofs.Bounded.{any-step, any-hit}
 use Rattle.signature.specs.Signed.{digestBytes, agrees, listed}
 

@@ -1,13 +1,13 @@
 -- Laws of bounded sums and counts: a sum is determined by its terms, can be cut, and a change in a window changes it by the window's difference.
 use mathlib.Core.Path.{_≡_, refl, sym, _∙_, ap₂}
-use mathlib.Core.Bool.{Bool, true, false, _||_, false≢true}
+use mathlib.Core.Bool.{Bool, true, false}
 use mathlib.Core.Logic.{⊎-elim}
 use Prim.Native.Nat.{ℕ, zero, suc, _+_, _-_, _<_, _≤_}
 use native.Mathlib.Nat.{add-zero, add-suc}
 use native.Mathlib.Omega.{arith}
 use borrow.Author.Tests.{lt-ltb, le-ltb}
 use Rattle.words.specs.Bounded.{above, any, sum, num, count}
-use Rattle.words.proofs.Bounded.{last-or-below, any-none, any-avoids, any-found}
+use Rattle.words.proofs.Bounded.{last-or-below, any-none, any-found}
 
 -- Sums
 

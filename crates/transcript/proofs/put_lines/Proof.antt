@@ -1,6 +1,5 @@
 -- The invariant: the lines of the records passed are stored.
-use borrow.Author.Needs.{needs}
-use mathlib.Core.Path.{_≡_, refl}
+use mathlib.Core.Path.{_≡_}
 use Prim.Native.Nat.{_+_, _-_, _*_, _≤_}
 use native.Mathlib.Omega.{arith}
 use Rattle.steps.specs.Records.{recordBytes, callPlace}

@@ -1,5 +1,4 @@
 -- `entries::decode::entry_at` meets its contract: bits 1..0 tell a fault at both levels.
-use mathlib.Core.Path.{_∙_, sym}
 use borrow.Author.Needs.{needs}
 use Rattle.entries.specs.Meaning.{levelOf}
 use Rattle.entries.proofs.Decoding.{entryAt-fault}

@@ -1,6 +1,6 @@
 -- The tests are those of the rules, in their order, on the words that the ledger holds.
 use borrow.Author.Needs.{needs}
-use mathlib.Core.Path.{_≡_, sym, _∙_}
+use mathlib.Core.Path.{sym, _∙_}
 use native.Mathlib.Omega.{arith}
 use Rattle.rules.proofs.State.{fits}
 use Rattle.guest.proofs.Walking.{sound, walk-in-region}

@@ -1,7 +1,6 @@
 -- An entry without blocks has no place; the place of another is tested whole.
 use borrow.Author.Needs.{needs}
 use borrow.Author.Tests.{lt-ltb}
-use mathlib.Core.Path.{_≡_, sym, _∙_}
 use native.Mathlib.Omega.{arith}
 use Prim.Native.Nat.{_<_}
 use Rattle.rules.specs.Tables.{astray}

@@ -1,7 +1,6 @@
 -- The invariant: the hash value is that of the first i blocks.
-use mathlib.Core.Path.{_≡_, refl}
+use mathlib.Core.Path.{_≡_}
 use Prim.Native.Nat.{_≤_, _-_, _/_}
-use borrow.Author.Needs.{needs}
 use native.Mathlib.Omega.{arith}
 use lib.ListN.{length}
 use Rattle.signature.specs.Sha256.{padded, hashes, hash}

@@ -1,7 +1,4 @@
 -- The digest that is looked for is the block's.
-use mathlib.Core.Path.{_∙_, ap}
-use mathlib.Core.List.{List}
-use Prim.Native.Nat.{ℕ}
 use borrow.Author.Needs.{needs}
 use Rattle.signature.specs.Signed.{signed}
 use Rattle.signature.proofs.golden.is_signed.Statement.{statement}

@@ -1,7 +1,6 @@
 -- The invariant: the array is filled with the first i bytes of the padded message from a on.
 use mathlib.Core.Path.{_∙_}
 use Prim.Native.Nat.{_-_, _+_}
-use borrow.Author.Needs.{needs}
 use native.Mathlib.Omega.{arith}
 use lib.ListN.{getD}
 use Rattle.words.specs.Lists.{tabulate}

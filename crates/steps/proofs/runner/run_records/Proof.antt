@@ -4,9 +4,8 @@ use borrow.Author.Tests.{not-true, not-false}
 use mathlib.Core.Path.{_≡_, refl, sym, _∙_}
 use Prim.Native.Nat.{_-_}
 use native.Mathlib.Omega.{arith}
-use lib.ListN.{length, length-set}
+use lib.ListN.{length}
 use Rattle.rules.specs.Store.{lent}
-use Rattle.steps.specs.Meaning.{held}
 use Rattle.steps.proofs.Running.{Going, going-starts, going-turn, going-full, going-stops}
 use Rattle.steps.proofs.runner.run_records.Statement.{statement}
 use Rattle.steps.proofs.runner.run_records.Tie as tie
