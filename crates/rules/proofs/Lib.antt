@@ -22,7 +22,9 @@ pub mod Accessible
 pub mod Removals
 pub mod InTurn
 pub mod Policies
+pub mod Outcomes
 pub mod Runs
+pub mod Upheld
 pub mod Accepted
 pub mod SmallStores
 pub mod Witnesses

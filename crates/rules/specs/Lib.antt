@@ -13,4 +13,5 @@ pub mod Switch
 pub mod Guest
 pub mod Steps
 pub mod Demand3
+pub mod Upheld
 pub mod Policies

@@ -1,4 +1,3 @@
 pub mod Decoding
-pub mod Outcomes
 pub mod Running
 pub mod Upheld

@@ -1,55 +1,25 @@
--- Demand 3 holds of what every run leaves and hands out: from an accepted begin on, the run is one of the lists of the theorem.
-use mathlib.Core.List.{List, [], _∷_, _++_}
-use mathlib.Core.Option.{some, Option·none-ne-some}
+-- Demand 3 holds of what the runner leaves and hands out: it is what a run leaves and hands out.
+use mathlib.Core.List.{List}
 use mathlib.Core.Path.{_≡_, sym, _∙_}
-use Prim.Native.Nat.{ℕ, zero, suc, _+_, _≤_}
+use Prim.Native.Nat.{ℕ, _+_, _≤_}
 use native.Mathlib.Omega.{arith}
-use lib.ListN.{length, take, drop, getElem?}
+use lib.ListN.{length, take, drop}
 use lib.Seq.{take-append-seam}
 use Rattle.words.specs.Lists.{putList}
 use Rattle.words.proofs.Lists.{putList-between}
 use Rattle.rules.specs.Store.{Store}
-use Rattle.rules.specs.Begin.{beginOutcome}
-use Rattle.rules.specs.Steps.{Step, begins, obey, run}
-use Rattle.rules.specs.Demand3.{storeAt}
-use Rattle.rules.proofs.Demand3.{demand3, at-the-end}
-use Rattle.rules.proofs.Runs.{length-answers, length-bytes, reached-append, answers-append, bytes-append}
+use Rattle.rules.specs.Steps.{run}
+use Rattle.rules.specs.Upheld.{Upholds}
+use Rattle.rules.proofs.Runs.{length-answers, length-bytes}
+use Rattle.rules.proofs.Upheld.{run-upholds-demand3}
 use Rattle.steps.specs.Records.{stepsIn, room, ran}
-use Rattle.steps.specs.Upheld.{Upheld, Upholds}
 use Rattle.steps.proofs.Decoding.{within-room}
-
-module _ (golden : List ℕ) where
-  -- the steps behind an accepted begin are one of the lists of the theorem
-  upheld : (s : Store) (B : ℕ) (steps : List Step) → beginOutcome s B .answer ≡ 0
-      → (let after = beginOutcome s B .after in let r = run golden after steps in Upheld golden B after steps (r .reached) (r .answers) (r .bytes))
-  upheld s B steps accepted =
-      let d = demand3 golden s B accepted steps in
-      record { throughout = d; safe = at-the-end d; fetched = d .fetched; never = d .never }
-
-  from-begin : (s : Store) (steps : List Step) (i B : ℕ) → getElem? steps i ≡ some (begins B) → getElem? (run golden s steps .answers) i ≡ some 0
-      → (let r = run golden s steps in
-      Upheld golden B (storeAt golden s steps (suc i)) (drop (suc i) steps) (r .reached) (drop (suc i) (r .answers)) (drop (suc i) (r .bytes)))
-  unfolding run obey
-  from-begin s [] zero B e a = absurd (Option·none-ne-some (begins B) e)
-  from-begin s [] (suc i) B e a = absurd (Option·none-ne-some (begins B) e)
-  from-begin s (step ∷ steps) zero B e a =
-      let is : step ≡ begins B = cc in
-      let accepted : beginOutcome s B .answer ≡ 0 = (let k = rw is at a in cc) in
-      rw is (upheld s B steps accepted)
-  from-begin s (step ∷ steps) (suc i) B e a = from-begin (obey golden s step .after) steps i B e a
-
-  -- the named theorem: demand 3 of what every run leaves and hands out, over whatever was lent
-  pub run-upholds-demand3 : (s : Store) (steps : List Step) → (let r = run golden s steps in Upholds golden s steps (r .reached) (r .answers) (r .bytes))
-  run-upholds-demand3 s steps start before reached i B e a =
-      let all = from-begin start (before ++ steps) i B e in
-      rw (reached, ← reached-append golden start before steps, ← answers-append golden start before steps, ← bytes-append golden start before steps)
-      (all (rw (answers-append golden start before steps, ← reached) a))
 
 -- what stands in an output, over which a list was stored
 standing : (xs vs : List ℕ) (n : ℕ) → n ≡ length vs → n ≤ length xs → take n (putList xs 0 vs) ≡ vs
 standing xs vs n e h = rw (putList-between xs 0 vs (omega arith), e) (take-append-seam vs (drop (0 + length vs) xs))
 
--- so demand 3 holds of exactly the bytes that the runner leaves and hands out
+-- demand 3 of exactly the bytes that the runner leaves and hands out
 pub runner-upholds-demand3 : (golden : List ℕ) (s : Store) (records answers₀ bytes₀ : List ℕ) {n : ℕ} {left : Store} {answers bytes : List ℕ}
     → n ≡ length (stepsIn records (room answers₀ bytes₀))
     → left ≡ ran golden s records answers₀ bytes₀ .reached

@@ -1,4 +1,3 @@
 pub mod Records
 pub mod Meaning
 pub mod Turns
-pub mod Upheld

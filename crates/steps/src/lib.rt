@@ -3,8 +3,8 @@ ghost use mathlib.Core.Path.{_≡_};
 ghost use lib.ListN.{length, take};
 ghost use Rattle.words.specs.Lists.{putList};
 ghost use Rattle.rules.specs.Store.{lent};
+ghost use Rattle.rules.specs.Upheld.{Upholds};
 ghost use Rattle.steps.specs.Records.{ran, room, stepsIn};
-ghost use Rattle.steps.specs.Upheld.{Upholds};
 
 pub mod records;
 pub mod runner;

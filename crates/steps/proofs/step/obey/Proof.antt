@@ -2,7 +2,7 @@
 use borrow.Author.Needs.{needs}
 use mathlib.Core.Path.{_∙_}
 use Rattle.rules.specs.Steps.{obey}
-use Rattle.steps.proofs.Outcomes.{begin-byte, create-byte, free-byte, map-byte, link-byte, unmap-byte, switch-byte, write-byte}
+use Rattle.rules.proofs.Outcomes.{begin-byte, create-byte, free-byte, map-byte, link-byte, unmap-byte, switch-byte, write-byte}
 use Rattle.steps.proofs.step.obey.Statement.{statement}
 use Rattle.steps.proofs.step.obey.Tie as tie
 
