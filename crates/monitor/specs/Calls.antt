@@ -1,0 +1,62 @@
+-- The exports of src/lib.rt as a caller calls them, one after the other ("Lists of steps").
+use mathlib.Core.List.{List, [], _∷_}
+use mathlib.Core.Path.{_≡_}
+use Prim.Native.Nat.{ℕ}
+use Rattle.entries.specs.Entries.{l1, l2}
+use Rattle.rules.specs.Store.{Store}
+use Rattle.rules.specs.Tables.{sections, pages}
+use Rattle.rules.specs.Begin.{beginOutcome}
+use Rattle.rules.specs.Create.{createOutcome}
+use Rattle.rules.specs.Free.{freeOutcome}
+use Rattle.rules.specs.Map.{mapOutcome}
+use Rattle.rules.specs.Link.{linkOutcome}
+use Rattle.rules.specs.Unmap.{unmapOutcome}
+use Rattle.rules.specs.Switch.{switchOutcome}
+use Rattle.rules.specs.Guest.{reads, fetches, writes, guestOutcome}
+use Rattle.rules.specs.Steps.{Step, begins, creates, frees, maps, links, unmaps, switches, accesses}
+
+-- one call of an export, lent a golden image and a store, by the clauses of its promise: its step, the store afterwards, its answer, and the byte given,
+-- 0 where it gives none
+pub data Called (golden : List ℕ) (s : Store) : Step → Store → ℕ → ℕ → Type 0 where
+  pagemon-begin : {first answer : ℕ} {after : Store} → answer ≡ beginOutcome s first .answer → after ≡ beginOutcome s first .after
+      → Called golden s (begins first) after answer 0
+  pagemon-create-l1 : {block answer : ℕ} {after : Store} → answer ≡ createOutcome l1 golden s block .answer → after ≡ createOutcome l1 golden s block .after
+      → Called golden s (creates l1 block) after answer 0
+  pagemon-create-l2 : {block answer : ℕ} {after : Store} → answer ≡ createOutcome l2 golden s block .answer → after ≡ createOutcome l2 golden s block .after
+      → Called golden s (creates l2 block) after answer 0
+  pagemon-free-l1 : {block answer : ℕ} {after : Store} → answer ≡ freeOutcome l1 s block .answer → after ≡ freeOutcome l1 s block .after
+      → Called golden s (frees l1 block) after answer 0
+  pagemon-free-l2 : {block answer : ℕ} {after : Store} → answer ≡ freeOutcome l2 s block .answer → after ≡ freeOutcome l2 s block .after
+      → Called golden s (frees l2 block) after answer 0
+  pagemon-map-l1 : {block index target rights answer : ℕ} {after : Store}
+      → answer ≡ mapOutcome sections golden s block index target rights .answer → after ≡ mapOutcome sections golden s block index target rights .after
+      → Called golden s (maps sections block index target rights) after answer 0
+  pagemon-map-l2 : {block index target rights answer : ℕ} {after : Store}
+      → answer ≡ mapOutcome pages golden s block index target rights .answer → after ≡ mapOutcome pages golden s block index target rights .after
+      → Called golden s (maps pages block index target rights) after answer 0
+  pagemon-link : {block index target table answer : ℕ} {after : Store}
+      → answer ≡ linkOutcome s block index target table .answer → after ≡ linkOutcome s block index target table .after
+      → Called golden s (links block index target table) after answer 0
+  pagemon-unmap-l1 : {block index answer : ℕ} {after : Store} → answer ≡ unmapOutcome sections s block index .answer → after ≡ unmapOutcome sections s block index .after
+      → Called golden s (unmaps sections block index) after answer 0
+  pagemon-unmap-l2 : {block index answer : ℕ} {after : Store} → answer ≡ unmapOutcome pages s block index .answer → after ≡ unmapOutcome pages s block index .after
+      → Called golden s (unmaps pages block index) after answer 0
+  pagemon-switch : {block answer : ℕ} {after : Store} → answer ≡ switchOutcome s block .answer → after ≡ switchOutcome s block .after
+      → Called golden s (switches block) after answer 0
+  pagemon-read : {address answer byte : ℕ} {after : Store}
+      → answer ≡ guestOutcome reads s address .answer → byte ≡ guestOutcome reads s address .byte → after ≡ guestOutcome reads s address .after
+      → Called golden s (accesses reads address) after answer byte
+  pagemon-fetch : {address answer byte : ℕ} {after : Store}
+      → answer ≡ guestOutcome fetches s address .answer → byte ≡ guestOutcome fetches s address .byte → after ≡ guestOutcome fetches s address .after
+      → Called golden s (accesses fetches address) after answer byte
+  pagemon-write : {address byte answer : ℕ} {after : Store}
+      → answer ≡ guestOutcome (writes byte) s address .answer → after ≡ guestOutcome (writes byte) s address .after
+      → Called golden s (accesses (writes byte) address) after answer 0
+
+-- "Each step is lent the memory and ledger that the step before it left. Every step that takes a golden image is lent the same one": calls from
+-- one store to another, with their answers and the bytes given
+pub data Calls (golden : List ℕ) : Store → List Step → Store → List ℕ → List ℕ → Type 0 where
+  done : {s : Store} → Calls golden s [] s [] []
+  call : {s next left : Store} {step : Step} {steps : List Step} {answer byte : ℕ} {answers bytes : List ℕ}
+      → Called golden s step next answer byte → Calls golden next steps left answers bytes
+      → Calls golden s (step ∷ steps) left (answer ∷ answers) (byte ∷ bytes)
