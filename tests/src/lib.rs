@@ -6,15 +6,12 @@ pub mod demand;
 pub mod faults;
 pub mod guarded;
 pub mod hasher;
-#[cfg(feature = "library")]
 pub mod library;
 pub mod lists;
 pub mod monitor;
 pub mod program;
 pub mod random;
 pub mod reference;
-#[cfg(feature = "steps")]
 pub mod runner;
 pub mod sha256;
-#[cfg(feature = "signature")]
 pub mod signature;

@@ -1,60 +1,25 @@
 //! The exports of libmonitor.a. Every buffer is lent between canary bytes; canaries and const buffers are looked at after each call.
 use crate::guarded::Guarded;
-use crate::monitor::{Kind, Monitor};
+use crate::monitor::Monitor;
 use std::cell::Cell;
 
-/// Declares the exports that come with a feature. Without the feature they cannot be called.
-macro_rules! exports {
-    ($feature:tt: $(fn $name:ident($($parameter:ident: $type:ty),*);)*) => {
-        #[cfg(feature = $feature)]
-        extern "C" {
-            $(fn $name($($parameter: $type),*) -> u32;)*
-        }
-        $(
-            #[cfg(not(feature = $feature))]
-            unsafe fn $name($(_: $type),*) -> u32 {
-                panic!("{} is not linked", stringify!($name))
-            }
-        )*
-    };
-}
-
+#[rustfmt::skip]
 #[link(name = "monitor", kind = "static")]
-extern "C" {}
-
-#[rustfmt::skip]
-exports! { "library":
-    fn pagemon_begin(memory: *const u8, memory_length: usize, ledger: *mut u8, ledger_length: usize, first_block: u32);
-    fn pagemon_switch(memory: *const u8, memory_length: usize, ledger: *mut u8, ledger_length: usize, block: u32);
-    fn pagemon_read(memory: *const u8, memory_length: usize, ledger: *const u8, ledger_length: usize, address: u32, byte: *mut u8);
-    fn pagemon_write(memory: *mut u8, memory_length: usize, ledger: *const u8, ledger_length: usize, address: u32, byte: u32);
-    fn pagemon_fetch(memory: *const u8, memory_length: usize, ledger: *const u8, ledger_length: usize, address: u32, byte: *mut u8);
-}
-
-#[rustfmt::skip]
-exports! { "mapping":
-    fn pagemon_map_l1(memory: *mut u8, memory_length: usize, ledger: *mut u8, ledger_length: usize, golden: *const u8, golden_length: usize, block: u32, index: u32, target: u32, rights: u32);
-    fn pagemon_map_l2(memory: *mut u8, memory_length: usize, ledger: *mut u8, ledger_length: usize, golden: *const u8, golden_length: usize, block: u32, index: u32, target: u32, rights: u32);
-    fn pagemon_link(memory: *mut u8, memory_length: usize, ledger: *mut u8, ledger_length: usize, block: u32, index: u32, target: u32, table: u32);
-    fn pagemon_unmap_l1(memory: *mut u8, memory_length: usize, ledger: *mut u8, ledger_length: usize, block: u32, index: u32);
-    fn pagemon_unmap_l2(memory: *mut u8, memory_length: usize, ledger: *mut u8, ledger_length: usize, block: u32, index: u32);
-}
-
-#[rustfmt::skip]
-exports! { "tables":
-    fn pagemon_create_l1(memory: *const u8, memory_length: usize, ledger: *mut u8, ledger_length: usize, golden: *const u8, golden_length: usize, block: u32);
-    fn pagemon_create_l2(memory: *const u8, memory_length: usize, ledger: *mut u8, ledger_length: usize, golden: *const u8, golden_length: usize, block: u32);
-    fn pagemon_free_l1(memory: *const u8, memory_length: usize, ledger: *mut u8, ledger_length: usize, block: u32);
-    fn pagemon_free_l2(memory: *const u8, memory_length: usize, ledger: *mut u8, ledger_length: usize, block: u32);
-}
-
-/// Is the call among those that are linked?
-pub fn linked(kind: Kind) -> bool {
-    match kind {
-        Kind::Begin | Kind::Switch | Kind::Read | Kind::Write | Kind::Fetch => true,
-        Kind::MapL1 | Kind::MapL2 | Kind::Link | Kind::UnmapL1 | Kind::UnmapL2 => cfg!(feature = "mapping"),
-        Kind::CreateL1 | Kind::CreateL2 | Kind::FreeL1 | Kind::FreeL2 => cfg!(feature = "tables"),
-    }
+extern "C" {
+    fn pagemon_begin(memory: *const u8, memory_length: usize, ledger: *mut u8, ledger_length: usize, first_block: u32) -> u32;
+    fn pagemon_switch(memory: *const u8, memory_length: usize, ledger: *mut u8, ledger_length: usize, block: u32) -> u32;
+    fn pagemon_read(memory: *const u8, memory_length: usize, ledger: *const u8, ledger_length: usize, address: u32, byte: *mut u8) -> u32;
+    fn pagemon_write(memory: *mut u8, memory_length: usize, ledger: *const u8, ledger_length: usize, address: u32, byte: u32) -> u32;
+    fn pagemon_fetch(memory: *const u8, memory_length: usize, ledger: *const u8, ledger_length: usize, address: u32, byte: *mut u8) -> u32;
+    fn pagemon_map_l1(memory: *mut u8, memory_length: usize, ledger: *mut u8, ledger_length: usize, golden: *const u8, golden_length: usize, block: u32, index: u32, target: u32, rights: u32) -> u32;
+    fn pagemon_map_l2(memory: *mut u8, memory_length: usize, ledger: *mut u8, ledger_length: usize, golden: *const u8, golden_length: usize, block: u32, index: u32, target: u32, rights: u32) -> u32;
+    fn pagemon_link(memory: *mut u8, memory_length: usize, ledger: *mut u8, ledger_length: usize, block: u32, index: u32, target: u32, table: u32) -> u32;
+    fn pagemon_unmap_l1(memory: *mut u8, memory_length: usize, ledger: *mut u8, ledger_length: usize, block: u32, index: u32) -> u32;
+    fn pagemon_unmap_l2(memory: *mut u8, memory_length: usize, ledger: *mut u8, ledger_length: usize, block: u32, index: u32) -> u32;
+    fn pagemon_create_l1(memory: *const u8, memory_length: usize, ledger: *mut u8, ledger_length: usize, golden: *const u8, golden_length: usize, block: u32) -> u32;
+    fn pagemon_create_l2(memory: *const u8, memory_length: usize, ledger: *mut u8, ledger_length: usize, golden: *const u8, golden_length: usize, block: u32) -> u32;
+    fn pagemon_free_l1(memory: *const u8, memory_length: usize, ledger: *mut u8, ledger_length: usize, block: u32) -> u32;
+    fn pagemon_free_l2(memory: *const u8, memory_length: usize, ledger: *mut u8, ledger_length: usize, block: u32) -> u32;
 }
 
 /// The linked library.

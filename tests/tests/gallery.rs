@@ -36,7 +36,6 @@ fn by_the_reference() {
     answers_are_as_expected(&Reference::new());
 }
 
-#[cfg(feature = "tables")]
 #[test]
 fn by_the_library() {
     answers_are_as_expected(&tests::library::Library::default());

@@ -1,20 +1,11 @@
 //! The document's sample list of calls, on what `pagemon` has.
-use tests::monitor::{perform, Call, Kind, Monitor, Store};
+use tests::library::Library;
+use tests::monitor::{perform, Call, Kind, Store};
 use tests::program::{self, line, SAMPLE};
 use Kind::*;
 
-#[cfg(feature = "tables")]
-fn monitor() -> impl Monitor {
-    tests::library::Library::default()
-}
-
-#[cfg(not(feature = "tables"))]
-fn monitor() -> impl Monitor {
-    tests::reference::Reference::new()
-}
-
 fn answer(call: Call, store: &mut Store) -> String {
-    line(call, perform(&monitor(), call, store))
+    line(call, perform(&Library::default(), call, store))
 }
 
 #[test]

@@ -1,34 +1,17 @@
-//! Compares the candidate with the reference, call by call.
+//! Compares the library with the reference, call by call.
 //!
 //!   compare [--calls begin,switch,...] [--fault K | --faults | --list-faults]
 //!
-//! Without `--calls`, all calls are compared, or those that are linked. Without a fault, the two must agree, and every number that a call can answer must have been reached. With `--fault K` the reference carries the
+//! Without `--calls`, all calls are compared. Without a fault, the two must agree, and every number that a call can answer must have been reached. With `--fault K` the reference carries the
 //! K-th seeded fault and the two must differ: the status is then 1. `--faults` runs every fault of the calls and fails if one is not found.
 use std::process::ExitCode;
 use std::time::Instant;
 use tests::cases;
 use tests::compare::{Comparer, Tally};
 use tests::faults::{self, Fault};
+use tests::library::Library;
 use tests::monitor::{Kind, Monitor};
 use tests::reference::Reference;
-
-#[cfg(feature = "library")]
-fn candidate() -> impl Monitor {
-    tests::library::Library::default()
-}
-
-#[cfg(feature = "library")]
-use tests::library::linked;
-
-#[cfg(not(feature = "library"))]
-fn candidate() -> impl Monitor {
-    Reference::new()
-}
-
-#[cfg(not(feature = "library"))]
-fn linked(_: Kind) -> bool {
-    true
-}
 
 struct Options {
     calls: Vec<Kind>,
@@ -38,7 +21,7 @@ struct Options {
 }
 
 fn options() -> Result<Options, String> {
-    let calls = Kind::ALL.into_iter().filter(|kind| linked(*kind)).collect();
+    let calls = Kind::ALL.into_iter().collect();
     let mut options = Options { calls, fault: None, all_faults: false, list: false };
     let mut arguments = std::env::args().skip(1);
     while let Some(argument) = arguments.next() {
@@ -97,7 +80,7 @@ fn list(faults: &[Fault], calls: &[Kind]) {
 fn differs_not(fault: Fault) -> bool {
     let mut reference = Reference::new();
     reference.set_fault(Some(fault));
-    match cases::run(fault.call, &mut Comparer::new(&candidate(), &reference, false)) {
+    match cases::run(fault.call, &mut Comparer::new(&Library::default(), &reference, false)) {
         Ok(()) => {
             println!("{fault}: no difference");
             true
@@ -111,7 +94,7 @@ fn differs_not(fault: Fault) -> bool {
 
 fn find_all(faults: &[Fault], calls: &[Kind]) -> bool {
     let start = Instant::now();
-    let candidate = candidate();
+    let candidate = Library::default();
     let mut reference = Reference::new();
     let (mut run, mut missed) = (0, 0);
     for (number, fault) in (1..).zip(faults).filter(|(_, fault)| calls.contains(&fault.call)) {
@@ -127,7 +110,7 @@ fn find_all(faults: &[Fault], calls: &[Kind]) -> bool {
 }
 
 fn agree(calls: &[Kind]) -> bool {
-    let (candidate, reference) = (candidate(), Reference::new());
+    let (candidate, reference) = (Library::default(), Reference::new());
     let mut comparer = Comparer::new(&candidate, &reference, true);
     let mut passed = true;
     for kind in calls {
