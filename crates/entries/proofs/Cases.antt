@@ -3,8 +3,8 @@ use mathlib.Core.Path.{_≡_, refl, _∙_, ap₂}
 use mathlib.Core.Bool.{Bool, true, _&&_}
 use mathlib.Core.List.{List, [], _∷_, map}
 use Prim.Native.Nat.{ℕ, _<_}
-use borrow.Author.Tests.{ltb-true}
 use lib.Dec.{ltb}
+use borrow.Author.Tests.{ltb-true}
 use Rattle.words.specs.Bounded.{num}
 use Rattle.words.proofs.Bounded.{and-true}
 use Rattle.entries.specs.Rights.{mayRead, mayWrite, mayExecute, rightsOf}

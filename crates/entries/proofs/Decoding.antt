@@ -1,18 +1,18 @@
--- Laws of reading entries: an L2 entry is decided by its page rights' number and its place, an L1 entry by its form, and each by its word alone.
+-- Laws of reading entries: an L2 entry is decided by its page rights' number and its place, an L1 entry by its form, and each, today, by its word alone.
 use mathlib.Core.Path.{_≡_, refl, sym, ap}
 use mathlib.Core.Bool.{Bool, true, false, cond, false≢true}
 use mathlib.Core.List.{List}
 use mathlib.Core.Logic.{_≢_}
-use Prim.Native.Nat.{ℕ, _+_, _*_, _-_, _/_, _%_, _^_, _≤_}
+use Prim.Native.Nat.{ℕ, _+_, _*_, _-_, _/_, _%_}
 use native.Mathlib.Omega.{arith}
-use borrow.Author.Tests.{eqb-true, ne-eqb, le-ltb}
 use lib.Dec.{eqb, ltb}
+use borrow.Author.Tests.{eqb-true, ne-eqb, le-ltb}
 use Rattle.words.specs.Words.{bits, word, putWord}
 use Rattle.words.proofs.Bounded.{and-true}
 use Rattle.words.proofs.Fields.{bits-low}
 use Rattle.words.proofs.Words.{word-putWord-other}
 use Rattle.entries.specs.Rights.{acceptedAP, rightsOf}
-use Rattle.entries.specs.Entries.{Entry, fault, unaccepted, link, section, page, Level, l1, l2, sectionAP, sectionXN, pageAP, pageXN, isLinkForm, isSectionForm, isPageForm, l1Entry, l2Entry, entryAt, codeOf, pageCode, first, size, sectionBlocks}
+use Rattle.entries.specs.Entries.{Entry, fault, unaccepted, link, section, page, Level, l1, l2, sectionAP, sectionXN, pageAP, pageXN, isLinkForm, isSectionForm, isPageForm, l1Entry, l2Entry, entryAt, codeOf, pageCode, isLink, isSection, isPage, sectionBlocks}
 
 -- Words of level 2
 
@@ -128,6 +128,30 @@ unfolding entryAt l1Entry l2Entry
 entryAt-fault l1 mem j h = rw h
 entryAt-fault l2 mem j h = rw h
 
+-- no page stands in an L1 table, and of the forms pages alone stand in an L2 table
+cond-not : (q : Entry → Bool) (t : Bool) (e f : Entry) → q e ≡ false → q f ≡ false → q (cond t e f) ≡ false
+cond-not q true e f h k = h
+cond-not q false e f h k = k
+
+pub l1-no-page : (mem : List ℕ) (j : ℕ) → isPage (entryAt l1 mem j) ≡ false
+unfolding entryAt l1Entry isPage
+l1-no-page mem j =
+    let w = word mem (4 * j) in
+    let s = section (sectionBlocks * bits w 20 12) (rightsOf (sectionAP w) (sectionXN w)) in
+    let f = cond (isSectionForm w) s unaccepted in
+    cond-not isPage (eqb (bits w 0 2) 0) fault (cond (isLinkForm w) (link (bits w 10 22)) f) refl
+    (cond-not isPage (isLinkForm w) (link (bits w 10 22)) f refl (cond-not isPage (isSectionForm w) s unaccepted refl refl))
+
+pub l2-page-only : (mem : List ℕ) (j : ℕ) → (isLink (entryAt l2 mem j) ≡ false) × (isSection (entryAt l2 mem j) ≡ false)
+unfolding entryAt l2Entry isLink isSection
+l2-page-only mem j =
+    let w = word mem (4 * j) in
+    let p = page (bits w 12 20) (rightsOf (pageAP w) (pageXN w)) in
+    let f = cond (isPageForm w) p unaccepted in (
+      cond-not isLink (eqb (bits w 0 2) 0) fault f refl (cond-not isLink (isPageForm w) p unaccepted refl refl),
+      cond-not isSection (eqb (bits w 0 2) 0) fault f refl (cond-not isSection (isPageForm w) p unaccepted refl refl),
+    )
+
 -- entries whose aligned sixteen words agree are the same: today the word itself would do
 pub entryAt-cong : (v : Level) (xs ys : List ℕ) (j : ℕ)
     → ((i : ℕ) → i / 16 ≡ j / 16 → word xs (4 * i) ≡ word ys (4 * i)) → entryAt v xs j ≡ entryAt v ys j
@@ -140,23 +164,3 @@ pub entryAt-putWord-other : (v : Level) (mem : List ℕ) (i j w : ℕ) → i ≢
 unfolding entryAt
 entryAt-putWord-other l1 mem i j w h = ap l1Entry (word-putWord-other mem (4 * i) w (4 * j) (λ l. omega arith))
 entryAt-putWord-other l2 mem i j w h = ap l2Entry (word-putWord-other mem (4 * i) w (4 * j) (λ l. omega arith))
-
--- an entry's place ends with the 32-bit addresses
-Fits : Entry → Type 0
-Fits e = first e + size e ≤ 2 ^ 20
-
-fits-cond : (t : Bool) (e f : Entry) → Fits e → Fits f → Fits (cond t e f)
-fits-cond true e f h k = h
-fits-cond false e f h k = k
-
-pub entryAt-fits : (v : Level) (mem : List ℕ) (j : ℕ) → first (entryAt v mem j) + size (entryAt v mem j) ≤ 2 ^ 20
-unfolding Fits entryAt l1Entry l2Entry first size
-entryAt-fits l1 mem j =
-    let w = word mem (4 * j) in
-    fits-cond (eqb (bits w 0 2) 0) fault _ (omega arith)
-    (fits-cond (isLinkForm w) (link (bits w 10 22)) _ (omega arith)
-    (fits-cond (isSectionForm w) (section (sectionBlocks * bits w 20 12) (rightsOf (sectionAP w) (sectionXN w))) unaccepted (omega arith) (omega arith)))
-entryAt-fits l2 mem j =
-    let w = word mem (4 * j) in
-    fits-cond (eqb (bits w 0 2) 0) fault _ (omega arith)
-    (fits-cond (isPageForm w) (page (bits w 12 20) (rightsOf (pageAP w) (pageXN w))) unaccepted (omega arith) (omega arith))

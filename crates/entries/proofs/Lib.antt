@@ -1,3 +1,4 @@
 pub mod Cases
+pub mod Covers
 pub mod Decoding
 pub mod RoundTrip

@@ -5,8 +5,8 @@ use mathlib.Core.Bool.{Bool, true, false, not, _&&_}
 use mathlib.Core.List.{List}
 use Prim.Native.Nat.{ℕ, _+_, _*_, _/_, _^_, _<_}
 use native.Mathlib.Omega.{arith}
-use borrow.Author.Tests.{eqb-true, ltb-true, not-false}
 use lib.Dec.{eqb, ltb}
+use borrow.Author.Tests.{eqb-true, ltb-true, not-false}
 use Rattle.words.specs.Bounded.{any, num}
 use Rattle.words.specs.Words.{bits, word, putWord}
 use Rattle.words.proofs.Bounded.{and-true, any-none}
@@ -15,8 +15,8 @@ use Rattle.words.proofs.Words.{word-putWord-same}
 use Rattle.entries.specs.Rights.{mayRead, mayWrite, mayExecute, rightsOf}
 use Rattle.entries.specs.Entries.{Entry, fault, link, section, page, Level, l1, l2, sectionAP, sectionXN, isLinkForm, isSectionForm, isPageForm, l1Entry, l2Entry, sectionBlocks, entryAt, codeOf, pageCode}
 use Rattle.entries.specs.Written.{pageBits, sectionBits, wordOf}
-use Rattle.entries.proofs.Decoding.{entryOfCode-page, l2Entry-code, l1Entry-link, l1Entry-section, isSectionForm-low, sectionRights-low}
 use Rattle.entries.specs.Needs.{HoldsWord, IsBlock, IsSectionStart, IsTablePlace}
+use Rattle.entries.proofs.Decoding.{entryOfCode-page, l2Entry-code, l1Entry-link, l1Entry-section, isSectionForm-low, sectionRights-low}
 
 -- the rights for which low bits are listed: "for rights 0, 1, 3, 5"
 pub data Grantable : ℕ → Type 0 where
@@ -128,7 +128,7 @@ module _ (kind : ℕ) where
       let zeros : bits w 2 8 ≡ 0 = sym (bits-low w 2 8 10 (omega arith)) ∙ ap (λ n. bits n 2 8) below in
       l1Entry-link w (rw (form, zeros)) ∙ ap link (bits-above 10 p (omega arith) 22 h)
 
-  pub wordOf-bound : {v : Level} {e : Entry} → Encodable v e → wordOf kind e < 2 ^ 32
+  wordOf-bound : {v : Level} {e : Entry} → Encodable v e → wordOf kind e < 2 ^ 32
   unfolding wordOf
   wordOf-bound a-fault = omega arith
   wordOf-bound (a-link h) = omega arith

@@ -112,6 +112,20 @@ isLink (link p) = true
 isLink (section b r) = false
 isLink (page b r) = false
 
+unfoldable pub isSection : Entry → Bool
+isSection fault = false
+isSection unaccepted = false
+isSection (link p) = false
+isSection (section b r) = true
+isSection (page b r) = false
+
+unfoldable pub isPage : Entry → Bool
+isPage fault = false
+isPage unaccepted = false
+isPage (link p) = false
+isPage (section b r) = false
+isPage (page b r) = true
+
 -- what a section or a page lets the guest do
 unfoldable pub rights : Entry → ℕ
 rights fault = 0
@@ -120,21 +134,28 @@ rights (link p) = 0
 rights (section b r) = r
 rights (page b r) = r
 
--- an entry's place: its first block, and how many there are
-unfoldable pub first : Entry → ℕ
-first fault = 0
-first unaccepted = 0
-first (link p) = p / blockTables
-first (section b r) = b
-first (page b r) = b
+-- an entry's place, "wholly in the region" or not: its first block, and how many there are
+unfoldable pub placeFirst : Entry → ℕ
+placeFirst fault = 0
+placeFirst unaccepted = 0
+placeFirst (link p) = p / blockTables
+placeFirst (section b r) = b
+placeFirst (page b r) = b
 
-unfoldable pub size : Entry → ℕ
-size fault = 0
-size unaccepted = 0
-size (link p) = 1
-size (section b r) = sectionBlocks
-size (page b r) = 1
+unfoldable pub placeBlocks : Entry → ℕ
+placeBlocks fault = 0
+placeBlocks unaccepted = 0
+placeBlocks (link p) = 1
+placeBlocks (section b r) = sectionBlocks
+placeBlocks (page b r) = 1
 
--- block b lies in the entry's place
+-- the blocks that an entry covers, on which it counts: all those of its place
+unfoldable pub coverFirst : Entry → ℕ
+coverFirst e = placeFirst e
+
+unfoldable pub coverBlocks : Entry → ℕ
+coverBlocks e = placeBlocks e
+
+-- block b is one of them
 unfoldable pub covers : Entry → ℕ → Bool
-covers e b = among (first e) (size e) b
+covers e b = among (coverFirst e) (coverBlocks e) b

@@ -3,8 +3,13 @@ use Rattle.entries.specs.declared.entry.Entry as entry
 use Rattle.entries.specs.declared.entry.Entry.the-variants.{Fault, Unaccepted, Link, Section, Page}
 use Rattle.entries.specs.declared.entry.Level as level
 use Rattle.entries.specs.declared.entry.Level.the-variants.{L1, L2}
+use Rattle.entries.specs.declared.rights.Right as right
+use Rattle.entries.specs.declared.rights.Right.the-variants.{Read, Write, Execute}
+use Rattle.entries.specs.Rights as rights
+use Rattle.entries.specs.Rights.{read, write, execute}
 use Rattle.entries.specs.Entries.{Entry, fault, unaccepted, link, section, page, Level, l1, l2}
 
+-- an entry
 abbrev pub meaning : entry.Entry → Entry
 meaning Fault = fault
 meaning Unaccepted = unaccepted
@@ -12,6 +17,13 @@ meaning (Link p) = link p
 meaning (Section m) = section (m .first) (m .rights)
 meaning (Page m) = page (m .first) (m .rights)
 
+-- the level of a table
 abbrev pub levelOf : level.Level → Level
 levelOf L1 = l1
 levelOf L2 = l2
+
+-- a right
+abbrev pub rightOf : right.Right → rights.Right
+rightOf Read = read
+rightOf Write = write
+rightOf Execute = execute

@@ -1,8 +1,25 @@
--- What the access bits of a descriptor let the guest do ("Entries").
-use mathlib.Core.Bool.{Bool, _&&_, _||_}
+-- Rights: what a number of them allows, and what the access bits of a descriptor let the guest do ("Entries", "Calls").
+use mathlib.Core.Bool.{Bool, not, _&&_, _||_}
 use Prim.Native.Nat.{ℕ, _+_, _*_}
 use lib.Dec.{eqb}
-use Rattle.words.specs.Bounded.{neqb, num}
+use Rattle.words.specs.Bounded.{above, neqb, num}
+use Rattle.words.specs.Words.{bits}
+
+-- "1 (read) + 2 (write) + 4 (execute)", in an entry and in a call
+pub data Right : Type 0 where
+  read : Right
+  write : Right
+  execute : Right
+
+-- the rights r hold this right
+unfoldable pub allows : ℕ → Right → Bool
+allows r read = eqb (bits r 0 1) 1
+allows r write = eqb (bits r 1 1) 1
+allows r execute = eqb (bits r 2 1) 1
+
+-- "9 if rights exceed 7, or hold write or execute without read"
+unfoldable pub unlawfulRights : ℕ → Bool
+unlawfulRights r = above r 7 || not (allows r read) && (allows r write || allows r execute)
 
 -- "AP 100 (binary) is not accepted"
 abbrev pub acceptedAP : ℕ → Bool
@@ -19,6 +36,6 @@ mayWrite ap = eqb ap 0b011
 unfoldable pub mayExecute : ℕ → ℕ → Bool
 mayExecute ap xn = mayRead ap && eqb xn 0
 
--- rights as one number: 1 (read) + 2 (write) + 4 (execute)
+-- the rights of access bits as one number
 unfoldable pub rightsOf : ℕ → ℕ → ℕ
 rightsOf ap xn = 1 * num (mayRead ap) + 2 * num (mayWrite ap) + 4 * num (mayExecute ap xn)

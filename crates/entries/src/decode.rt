@@ -1,20 +1,17 @@
 // What a word of a table means: ARMv7-A short descriptors in the accepted forms.
-use crate::entry::EXECUTE;
 use crate::entry::Entry;
 use crate::entry::Level;
 use crate::entry::Mapping;
-use crate::entry::READ;
 use crate::entry::SECTION_BLOCKS;
-use crate::entry::WRITE;
+use crate::rights::rights_of;
 use crate::table::page_rights_at;
 use words::WORD_BYTES;
 ghost use mathlib.Core.Path.{_≡_};
 ghost use mathlib.Core.Bool.{true};
 ghost use mathlib.Core.List.{List};
-ghost use Prim.Native.Nat.{ℕ, _+_, _*_, _<_};
-ghost use Rattle.words.specs.Bounded.{num};
+ghost use Prim.Native.Nat.{ℕ, _*_};
 ghost use Rattle.words.specs.Words.{bits, word};
-ghost use Rattle.entries.specs.Rights.{mayRead, mayWrite, mayExecute, rightsOf};
+ghost use Rattle.entries.specs.Rights.{rightsOf};
 ghost use Rattle.entries.specs.Entries.{entryAt, isLinkForm, isPageForm, isSectionForm, l1, l1Entry, l2, l2Entry, pageAP, pageXN, sectionAP, sectionBlocks, sectionXN, sectionZeros};
 ghost use Rattle.entries.specs.Meaning.{levelOf, meaning};
 ghost use Rattle.entries.specs.Needs.{HoldsWord};
@@ -28,48 +25,7 @@ const SECTION_FORM: u32 = 0b10;
 const UNACCEPTED_AP: u32 = 0b100;
 
 // From 8 on the numbers of the page rights are those of accepted forms.
-const ACCEPTED: u8 = 8;
-
-// "AP 010, 110 and 111 let the guest read; 011 read and write; 000, 001 and 101 nothing"
-fn may_read(ap: u32) -> bool
-    ensures { λ r. ⌜ r ≡ mayRead ap ⌝ }
-{
-    match ap {
-        0b010 => true,
-        0b110 => true,
-        0b111 => true,
-        0b011 => true,
-        _ => false,
-    }
-}
-
-fn may_write(ap: u32) -> bool
-    ensures { λ r. ⌜ r ≡ mayWrite ap ⌝ }
-{
-    ap == 0b011
-}
-
-// "Execute needs read and XN = 0"
-fn may_execute(ap: u32, xn: u32) -> bool
-    ensures { λ r. ⌜ r ≡ mayExecute ap xn ⌝ }
-{
-    may_read(ap) && xn == 0
-}
-
-fn number(right: bool) -> u32
-    ensures { λ r. ⌜ (r ≡ num right) × (r < 2) ⌝ }
-{
-    if right { 1 } else { 0 }
-}
-
-// 1 (read) + 2 (write) + 4 (execute)
-fn rights_of(ap: u32, xn: u32) -> u32
-    ensures { λ r. ⌜ r ≡ rightsOf ap xn ⌝ }
-{
-    READ * number(may_read(ap))
-        + WRITE * number(may_write(ap))
-        + EXECUTE * number(may_execute(ap, xn))
-}
+const LEAST_ACCEPTED: u8 = 8;
 
 // "AP = bits 15, 11, 10"
 fn section_ap(w: u32) -> u32
@@ -160,7 +116,7 @@ fn page_mapping(w: u32) -> Mapping
     let code = page_rights_at(words::bits(w, 0, 10) as usize);
     Mapping {
         first: words::bits(w, 12, 20),
-        rights: (code - ACCEPTED) as u32,
+        rights: (code - LEAST_ACCEPTED) as u32,
     }
 }
 

@@ -1,6 +1,6 @@
 // "An entry is a fault, a link, a section or a page, and the last two carry a record of rights."
 ghost use mathlib.Core.Path.{_≡_};
-ghost use Rattle.entries.specs.Entries.{isFault, isUnaccepted, isLink, rights, first, size, covers};
+ghost use Rattle.entries.specs.Entries.{coverBlocks, coverFirst, isFault, isLink, isPage, isSection, isUnaccepted, placeBlocks, placeFirst, rights};
 ghost use Rattle.entries.specs.Meaning.{meaning};
 
 // The first block of a section or a page, and what the guest may do there.
@@ -24,13 +24,6 @@ pub enum Level {
     L1,
     L2,
 }
-
-// Rights are a sum of these.
-pub const READ: u32 = 1;
-
-pub const WRITE: u32 = 2;
-
-pub const EXECUTE: u32 = 4;
 
 pub const BLOCK_TABLES: u32 = 4;
 
@@ -72,6 +65,30 @@ pub fn is_link(e: Entry) -> bool
     }
 }
 
+pub fn is_section(e: Entry) -> bool
+    ensures { λ r. ⌜ r ≡ isSection (meaning e) ⌝ }
+{
+    match e {
+        Entry::Fault => false,
+        Entry::Unaccepted => false,
+        Entry::Link(_) => false,
+        Entry::Section(_) => true,
+        Entry::Page(_) => false,
+    }
+}
+
+pub fn is_page(e: Entry) -> bool
+    ensures { λ r. ⌜ r ≡ isPage (meaning e) ⌝ }
+{
+    match e {
+        Entry::Fault => false,
+        Entry::Unaccepted => false,
+        Entry::Link(_) => false,
+        Entry::Section(_) => false,
+        Entry::Page(_) => true,
+    }
+}
+
 pub fn rights(e: Entry) -> u32
     ensures { λ r. ⌜ r ≡ rights (meaning e) ⌝ }
 {
@@ -85,8 +102,8 @@ pub fn rights(e: Entry) -> u32
 }
 
 // The first block of the entry's place.
-pub fn first(e: Entry) -> u32
-    ensures { λ r. ⌜ r ≡ first (meaning e) ⌝ }
+pub fn place_first(e: Entry) -> u32
+    ensures { λ r. ⌜ r ≡ placeFirst (meaning e) ⌝ }
 {
     match e {
         Entry::Fault => 0,
@@ -98,8 +115,8 @@ pub fn first(e: Entry) -> u32
 }
 
 // The number of blocks of the entry's place.
-pub fn size(e: Entry) -> u32
-    ensures { λ r. ⌜ r ≡ size (meaning e) ⌝ }
+pub fn place_blocks(e: Entry) -> u32
+    ensures { λ r. ⌜ r ≡ placeBlocks (meaning e) ⌝ }
 {
     match e {
         Entry::Fault => 0,
@@ -110,13 +127,16 @@ pub fn size(e: Entry) -> u32
     }
 }
 
-// The entry leads to the block, or lets the guest reach it.
-pub fn covers(e: Entry, block: u32) -> bool
-    ensures { λ r. ⌜ r ≡ covers (meaning e) block ⌝ }
+// The first of the blocks on which the entry counts.
+pub fn cover_first(e: Entry) -> u32
+    ensures { λ r. ⌜ r ≡ coverFirst (meaning e) ⌝ }
 {
-    let start = first(e);
-    if block < start {
-        return false;
-    }
-    block - start < size(e)
+    place_first(e)
+}
+
+// The number of these blocks.
+pub fn cover_blocks(e: Entry) -> u32
+    ensures { λ r. ⌜ r ≡ coverBlocks (meaning e) ⌝ }
+{
+    place_blocks(e)
 }

@@ -2,20 +2,20 @@
 -- exactly its rights: the word that is written reads back, and the entry passed the tests that a walk makes.
 use mathlib.Core.Bool.{false}
 use mathlib.Core.List.{List}
-use mathlib.Core.Logic.{_≢_}
 use mathlib.Core.Path.{_≡_, refl, _∙_, ap}
-use Prim.Native.Nat.{ℕ, _+_, _-_, _*_, _/_, _%_, _<_}
+use Prim.Native.Nat.{ℕ, _+_, _-_, _*_, _/_, _%_, _<_, _≤_}
 use native.Mathlib.Nat.{add-zero, mod-one}
 use native.Mathlib.Omega.{arith}
 use lib.ListN.{length}
 use borrow.Author.Tests.{leb-false}
 use Rattle.words.specs.Words.{bits, word}
-use Rattle.entries.specs.Entries.{Entry, link, section, page, Level, l1, l2, entryAt, isFault, isUnaccepted, rights, first, size, blockTables}
+use Rattle.entries.specs.Entries.{Entry, link, section, page, Level, l1, l2, entryAt, isFault, isUnaccepted, rights, placeFirst, coverFirst, placeBlocks, coverBlocks, blockTables}
 use Rattle.entries.specs.Written.{wordOf, cacheable}
 use Rattle.entries.proofs.RoundTrip.{Encodable}
 use Rattle.rules.specs.Refusals.{answerOf}
+use Rattle.rules.specs.Outcomes.{leaving}
 use Rattle.rules.specs.Store.{blockBytes, blockWords, Store, blocks, base, outside}
-use Rattle.rules.specs.Tables.{tableBlocks, entries, Form, sections, pages, level, covered, words, mapping, wordIndex, astray, l2Words}
+use Rattle.rules.specs.Tables.{tableBlocks, tableEntries, Form, sections, pages, level, targetBlocks, mappingWords, mapping, wordIndex, astray, l2Words}
 use Rattle.rules.specs.General.{tableOutside, beyondTable, entered}
 use Rattle.rules.specs.Map.{mapRefusals, mapOutcome}
 use Rattle.rules.specs.Link.{linkTo, linkRefusals, linkOutcome}
@@ -23,26 +23,26 @@ use Rattle.rules.specs.Guest.{Walk, ends, passes, endsAt, secondEntry, f
 use Rattle.rules.proofs.Refusals.{passed, passed-front}
 use Rattle.rules.proofs.Memory.{length-fill, entryAt-fill, word-fill-other}
 use Rattle.rules.proofs.State.{Fit, within, settle-accepted}
-use Rattle.rules.proofs.Edits.{one-word}
+use Rattle.rules.proofs.Edits.{words-in-block}
 use Rattle.rules.proofs.Linking.{Linkable, linkable, link-written}
 use Rattle.rules.proofs.Mapping.{Mappable, mappable, target-inside}
 
--- entry i of the table at block p is x afterwards, and every other word of memory and its length are as before
-pub record Entered (v : Level) (s after : Store) (p i : ℕ) (x : Entry) : Type 0 where
-  pub decodes : entryAt v (after .memory) (wordIndex s p i) ≡ x
-  pub others : (j : ℕ) → j ≢ wordIndex s p i → word (after .memory) (4 * j) ≡ word (s .memory) (4 * j)
+-- the m entries from index i of the table at block p on are x afterwards, and every other word of memory and its length are as before
+pub record Entered (v : Level) (s after : Store) (p i m : ℕ) (x : ℕ → Entry) : Type 0 where
+  pub decodes : (k : ℕ) → k < m → entryAt v (after .memory) (wordIndex s p i + k) ≡ x k
+  pub others : (j : ℕ) → (wordIndex s p i ≤ j → wordIndex s p i + m ≤ j) → word (after .memory) (4 * j) ≡ word (s .memory) (4 * j)
   pub same-length : length (after .memory) ≡ length (s .memory)
 
-writes-entry : (v : Level) (s : Store) (p i m : ℕ) (x : Entry) → m ≡ 1 → Encodable v x → Fit (base s) (blocks s) s → tableOutside v s p ≡ false → beyondTable v i ≡ false
-    → Entered v s (entered s p i m x) p i x
-writes-entry v s p i m x one written fit t2 t4 =
+writes-entries : (v : Level) (s : Store) (p i m : ℕ) (x : ℕ → Entry) → ((k : ℕ) → k < m → Encodable v (x k)) → i % blockWords + m ≤ blockWords → Fit (base s) (blocks s) s → tableOutside v s p ≡ false → beyondTable v i ≡ false
+    → Entered v s (entered s p i m x) p i m x
+writes-entries v s p i m x written whole fit t2 t4 =
     let a = wordIndex s p i in
     let (low, high) = within (base s) (blocks s) p (tableBlocks v) t2 in
-    let small = leb-false (entries v) i t4 in
+    let small = leb-false (tableEntries v) i t4 in
     record {
-      decodes = rw add-zero at (entryAt-fill v (s .memory) a m cacheable x written (omega arith) 0 (omega arith));
-      others = λ j o. word-fill-other (s .memory) a m (wordOf cacheable x) j (λ l. omega arith);
-      same-length = length-fill (s .memory) a m (wordOf cacheable x);
+      decodes = entryAt-fill v (s .memory) a cacheable x m written (omega arith);
+      others = word-fill-other (s .memory) a (λ k. wordOf cacheable (x k)) m;
+      same-length = length-fill (s .memory) a (λ k. wordOf cacheable (x k)) m;
     }
 
 -- an accepted entry whose place is in the region lets a walk on
@@ -57,7 +57,7 @@ passesEnd B n mem addr a = let e = entryAt l2 mem a in passes l2 B n e (endsAt l
 -- a walk through a link goes on in the L2 table to which it leads
 walk-link : (B n : ℕ) (mem : List ℕ) (table addr p j : ℕ) → entryAt l1 mem (blockWords * (table - B) + bits addr 20 12) ≡ linkTo p j → j < blockTables → outside B n p (tableBlocks l2) ≡ false
     → walk B n mem table addr ≡ passesEnd B n mem addr (blockWords * (p - B) + (l2Words * j + bits addr 12 8))
-unfolding walk follow isUnaccepted isFault first size astray
+unfolding walk follow isUnaccepted isFault coverFirst placeFirst coverBlocks placeBlocks astray
 walk-link B n mem table addr p j through small inside =
     let (low, high) = within B n p (tableBlocks l2) inside in
     let q = blockTables * p + j in
@@ -69,58 +69,58 @@ walk-link B n mem table addr p j through small inside =
 -- Map
 
 module _ (f : Form) (golden : List ℕ) (s : Store) (p i t r : ℕ) (accepted : mapOutcome f golden s p i t r .answer ≡ 0) where
-  settled : (Mappable f golden s p i t r) × (mapOutcome f golden s p i t r .after ≡ entered s p i (words f) (mapping f t r))
+  settled : (Mappable f golden s p i t r) × (mapOutcome f golden s p i t r .after ≡ entered s p i (mappingWords f) (mapping f t r))
   unfolding mapOutcome
   settled =
       let rs = mapRefusals f golden s p i t r in
-      let (zero-is, after-is, _) = settle-accepted s (entered s p i (words f) (mapping f t r)) (answerOf rs) 0 accepted in
+      let (zero-is, after-is, _) = settle-accepted s (leaving (entered s p i (mappingWords f) (mapping f t r))) (answerOf rs) accepted in
       (mappable f golden s p i t r (passed-front rs (passed rs (omega arith) zero-is)), after-is)
 
-  pub map-enters : Entered (level f) s (mapOutcome f golden s p i t r .after) p i (mapping f t r)
+  pub map-enters : Entered (level f) s (mapOutcome f golden s p i t r .after) p i (mappingWords f) (mapping f t r)
   map-enters =
       let (can, after-is) = settled in
-      rw after-is (writes-entry (level f) s p i (words f) (mapping f t r) (one-word f) (can .written) (can .region) (can .table-inside) (can .index-inside))
+      rw after-is (writes-entries (level f) s p i (mappingWords f) (mapping f t r) (λ k l. can .written k) (words-in-block f i (can .aligned)) (can .region) (can .table-inside) (can .index-inside))
 
 -- a walk to the section that was mapped
 pub section-grants : (golden : List ℕ) (s : Store) (p i t r : ℕ) (accepted : mapOutcome sections golden s p i t r .answer ≡ 0) (addr : ℕ) → bits addr 20 12 ≡ i
-    → walk (base s) (blocks s) (mapOutcome sections golden s p i t r .after .memory) p addr ≡ ends l1 (t + addr / blockBytes % covered sections) r
-unfolding walk follow isUnaccepted isFault first size rights
+    → walk (base s) (blocks s) (mapOutcome sections golden s p i t r .after .memory) p addr ≡ ends l1 (t + addr / blockBytes % targetBlocks sections) r
+unfolding walk follow isUnaccepted isFault coverFirst placeFirst coverBlocks placeBlocks rights
 section-grants golden s p i t r accepted addr at =
     let can = settled sections golden s p i t r accepted .0 in
-    let is = map-enters sections golden s p i t r accepted .decodes in
+    let is = rw add-zero at (map-enters sections golden s p i t r accepted .decodes 0 (omega arith)) in
     let after = mapOutcome sections golden s p i t r .after .memory in
-    rw (at, is) (passes-on l1 (base s) (blocks s) (section t r) (endsAt l1 addr (section t r)) refl (target-inside sections golden s p i t r (can .fits-target)) refl)
+    rw (at, is) (passes-on l1 (base s) (blocks s) (section t r) (endsAt l1 addr (section t r)) refl (target-inside sections golden s p i t r (can .fits-target) 0) refl)
 
 -- a walk, through a link to its table, to the page that was mapped
 pub page-grants : (golden : List ℕ) (s : Store) (p i t r : ℕ) (accepted : mapOutcome pages golden s p i t r .answer ≡ 0) (table addr : ℕ)
     → entryAt l1 (mapOutcome pages golden s p i t r .after .memory) (wordIndex s table (bits addr 20 12)) ≡ linkTo p (i / l2Words) → bits addr 12 8 ≡ i % l2Words
     → walk (base s) (blocks s) (mapOutcome pages golden s p i t r .after .memory) table addr ≡ ends l2 t r
-unfolding isUnaccepted isFault first size rights
+unfolding isUnaccepted isFault coverFirst placeFirst coverBlocks placeBlocks rights
 page-grants golden s p i t r accepted table addr through at =
     let (can, _) = settled pages golden s p i t r accepted in
     let B = base s in
     let n = blocks s in
     let mem = mapOutcome pages golden s p i t r .after .memory in
-    let small = leb-false (entries l2) i (can .index-inside) in
+    let small = leb-false (tableEntries l2) i (can .index-inside) in
     let index : blockWords * (p - B) + (l2Words * (i / l2Words) + bits addr 12 8) ≡ wordIndex s p i = omega arith in
-    let is : entryAt l2 mem (blockWords * (p - B) + (l2Words * (i / l2Words) + bits addr 12 8)) ≡ page t r = ap (entryAt l2 mem) index ∙ map-enters pages golden s p i t r accepted .decodes in
+    let is : entryAt l2 mem (blockWords * (p - B) + (l2Words * (i / l2Words) + bits addr 12 8)) ≡ page t r = ap (entryAt l2 mem) index ∙ rw add-zero at (map-enters pages golden s p i t r accepted .decodes 0 (omega arith)) in
     walk-link B n mem table addr p (i / l2Words) through (omega arith) (can .table-inside)
-    ∙ rw is (passes-on l2 B n (page t r) (endsAt l2 addr (page t r)) refl (target-inside pages golden s p i t r (can .fits-target)) refl ∙ rw (mod-one (addr / blockBytes), add-zero t) refl)
+    ∙ rw is (passes-on l2 B n (page t r) (endsAt l2 addr (page t r)) refl (target-inside pages golden s p i t r (can .fits-target) 0) refl ∙ rw (mod-one (addr / blockBytes), add-zero t) refl)
 
 -- Link
 
 module _ (s : Store) (p i t j : ℕ) (accepted : linkOutcome s p i t j .answer ≡ 0) where
-  linked : (Linkable s p i t j) × (linkOutcome s p i t j .after ≡ entered s p i 1 (linkTo t j))
+  linked : (Linkable s p i t j) × (linkOutcome s p i t j .after ≡ entered s p i 1 (λ k. linkTo t j))
   unfolding linkOutcome
   linked =
       let rs = linkRefusals s p i t j in
-      let (zero-is, after-is, _) = settle-accepted s (entered s p i 1 (linkTo t j)) (answerOf rs) 0 accepted in
+      let (zero-is, after-is, _) = settle-accepted s (leaving (entered s p i 1 (λ k. linkTo t j))) (answerOf rs) accepted in
       (linkable s p i t j (passed-front rs (passed rs (omega arith) zero-is)), after-is)
 
-  pub link-enters : Entered l1 s (linkOutcome s p i t j .after) p i (linkTo t j)
+  pub link-enters : Entered l1 s (linkOutcome s p i t j .after) p i 1 (λ k. linkTo t j)
   link-enters =
       let (can, after-is) = linked in
-      rw after-is (writes-entry l1 s p i 1 (linkTo t j) refl (link-written can) (can .region) (can .table-inside) (can .index-inside))
+      rw after-is (writes-entries l1 s p i 1 (λ k. linkTo t j) (λ k l. link-written can) (omega arith) (can .region) (can .table-inside) (can .index-inside))
 
   -- a walk through the link grants what the entry of the L2 table grants that the address names
   pub link-leads : (addr : ℕ) → bits addr 20 12 ≡ i
@@ -128,4 +128,4 @@ module _ (s : Store) (p i t j : ℕ) (accepted : linkOutcome s p i t j .answer �
       ≡ passesEnd (base s) (blocks s) (linkOutcome s p i t j .after .memory) addr (blockWords * (t - base s) + (l2Words * j + bits addr 12 8))
   link-leads addr at =
       let mem = linkOutcome s p i t j .after .memory in
-      walk-link (base s) (blocks s) mem p addr t j (ap (λ (k : ℕ). entryAt l1 mem (wordIndex s p k)) at ∙ link-enters .decodes) (linked .0 .table) (linked .0 .target-inside)
+      walk-link (base s) (blocks s) mem p addr t j (ap (λ (k : ℕ). entryAt l1 mem (wordIndex s p k)) at ∙ rw add-zero at (link-enters .decodes 0 (omega arith))) (linked .0 .table) (linked .0 .target-inside)

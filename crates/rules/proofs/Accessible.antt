@@ -10,11 +10,12 @@ use native.Mathlib.Omega.{arith}
 use lib.ListN.{set}
 use Rattle.words.proofs.Lists.{getD-part}
 use Rattle.entries.specs.Entries.{Entry, Level, l1, l2, entryAt, rights}
+use Rattle.entries.specs.Rights.{Right, write, execute, allows}
 use Rattle.rules.specs.Refusals.{answerOf}
 use Rattle.rules.specs.Store.{blockBytes, blockWords, Store, blocks, base, Counter, writable, executable}
 use Rattle.rules.specs.Signature.{contents}
-use Rattle.rules.specs.Tables.{typeD, typeCode, Right, write, execute, allows, grants}
-use Rattle.rules.specs.Guest.{byteIndex, Access, reads, fetches, writes, needed, activeWalk, guestRefusals, written, byteGiven, guestAfter, guestOutcome}
+use Rattle.rules.specs.Tables.{typeD, typeCode, grants}
+use Rattle.rules.specs.Guest.{byteIndex, Access, reads, fetches, writes, needed, activeWalk, guestRefusals, written, byteGiven, guestAccepted, guestOutcome}
 use Rattle.rules.specs.Steps.{Told}
 use Rattle.rules.specs.Demand3.{counted}
 use Rattle.rules.specs.Policies.{ActiveSwitchable, Accessible, Exclusive, InWorkingSet, Integrity, AltersWritableOnly, KeepsExecutable, KeepsWorkingSet, KeepsWalks, FetchedCode}
@@ -87,7 +88,7 @@ module _ {h : Told} {s : Store} (r : Running h s) where
         allowed = t .allowed;
       }
 
-  access-alters : (a : Access) (addr : ℕ) → Arrived h s a addr → AltersWritableOnly h s (guestAfter a s addr)
+  access-alters : (a : Access) (addr : ℕ) → Arrived h s a addr → AltersWritableOnly h s (guestAccepted a s addr .store)
   unfolding written byteIndex needed
   access-alters reads addr t b l = inl refl
   access-alters fetches addr t b l = inl refl
@@ -106,7 +107,7 @@ module _ {h : Told} {s : Store} (r : Running h s) where
   pub guest-alters : (a : Access) (addr : ℕ) → AltersWritableOnly h s (guestOutcome a s addr .after)
   unfolding guestOutcome
   guest-alters a addr =
-      settle-keeps (AltersWritableOnly h s) s (guestAfter a s addr) (answerOf (guestRefusals a s addr)) (byteGiven a (s .memory) (byteIndex (base s) addr (activeWalk s addr)))
+      settle-keeps (AltersWritableOnly h s) s (guestAccepted a s addr) (answerOf (guestRefusals a s addr))
       (λ b l. inl refl) (λ e. access-alters a addr (arrived r a addr e))
 
   -- what is written is not executable
@@ -148,5 +149,5 @@ module _ {h : Told} {s : Store} (r : Running h s) where
   unfolding guestOutcome
   guest-fetches-code addr e =
       let (accepted, _, byte) =
-      settle-accepted s (guestAfter fetches s addr) (answerOf (guestRefusals fetches s addr)) (byteGiven fetches (s .memory) (byteIndex (base s) addr (activeWalk s addr))) e in
+      settle-accepted s (guestAccepted fetches s addr) (answerOf (guestRefusals fetches s addr)) e in
       rw byte (fetches-code addr (arrived r fetches addr accepted))

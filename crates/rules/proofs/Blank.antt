@@ -16,12 +16,15 @@ use Rattle.words.proofs.Bounded.{below-or-above, any-avoids, same}
 use Rattle.words.proofs.Lists.{length-tabulate}
 use Rattle.signature.specs.Sha256.{digestByte, hash, sha256}
 use Rattle.signature.specs.Signed.{digestBytes, agrees, listed, signed}
-use Rattle.entries.specs.Entries.{Entry, fault, Level, l1, l2, entryAt, l1Entry, l2Entry, isUnaccepted, isLink, rights, size}
+use Rattle.signature.specs.Signed.{misfitImage}
+use Rattle.entries.specs.Entries.{Entry, fault, Level, l1, l2, entryAt, l1Entry, l2Entry, isUnaccepted, isLink, rights, placeBlocks, coverBlocks}
+use Rattle.entries.specs.Rights.{allows}
 use Rattle.entries.proofs.RoundTrip.{readWrite}
 use Rattle.rules.specs.Refusals.{answerOf}
 use Rattle.rules.specs.Store.{blockWords, Store, blocks, base, Counter, writable, executable, linked, counter, someCounter, someBlock, someRegionBlock}
-use Rattle.rules.specs.Signature.{misfitImage, contents, certified}
-use Rattle.rules.specs.Tables.{typeD, typeCode, tableBlocks, entries, pages, typedEntry, tableEntry, allows, grants, gain, astray}
+use Rattle.rules.specs.Signature.{contents, signedBlock}
+use Rattle.rules.specs.Tables.{typeD, typeCode, tableBlocks, tableEntries, pages, typedEntry, tableEntry, grants, gain, astray}
+use Rattle.rules.specs.Outcomes.{leaving}
 use Rattle.rules.specs.Begin.{beginRefusals, beginAfter, beginOutcome}
 use Rattle.rules.specs.Create.{someCount, misplaced, unfitLink, unfitWrite, clash, clashes, unsigned, createRefusals, createOutcome, createAfter}
 use Rattle.rules.specs.Steps.{Step, creates, maps, obey, run, Told, typed, afterAccepted, afterAnswer, history}
@@ -29,9 +32,9 @@ use Rattle.rules.specs.Demand3.{storeAt, toldAt}
 use Rattle.rules.specs.Policies.{WritableByOneEntry, thereAndBack}
 use Rattle.rules.proofs.Refusals.{Passed, done, step, accepted}
 use Rattle.rules.proofs.Gains.{gives-fault, gain-none}
-use Rattle.rules.proofs.State.{recorded, entryOf, Running, settle-accepted}
+use Rattle.rules.proofs.State.{inside, recorded, entryOf, Running, settle-accepted}
 use Rattle.rules.proofs.Starting.{begin-accepted}
-use Rattle.rules.proofs.Passing.{settle-answer, Taken, taken, inside, no-misfit, right-type}
+use Rattle.rules.proofs.Passing.{settle-answer, Taken, taken, no-misfit, right-type}
 use Rattle.rules.proofs.InTurn.{Alone, map-goes, of-alone}
 use Rattle.rules.proofs.Policies.{policies}
 use Rattle.rules.proofs.Runs.{answers-append}
@@ -50,7 +53,7 @@ blank-typed memory blank t j = rw (blank l1 j, blank l2 j) (either (eqb t (typeC
   either false false = refl
 
 module _ {h : Told} {s : Store} (r : Running h s) (blank : Blank (s .memory)) where
-  pub blank-uncounted : (c : Counter) (b : ℕ) → b < blocks s → recorded s c b ≡ 0
+  blank-uncounted : (c : Counter) (b : ℕ) → b < blocks s → recorded s c b ≡ 0
   blank-uncounted c b l =
       r .consistent .counts-are c b l
       ∙ gain-none (blockWords * blocks s) (entryOf (base s) h (s .memory)) c (base s + b) (λ j _. rw (blank-typed (s .memory) blank (h .types (base s + j / blockWords)) j) (gives-fault c (base s + b)))
@@ -60,8 +63,8 @@ module _ {h : Told} {s : Store} (r : Running h s) (blank : Blank (s .memory)) wh
     abbrev entry : ℕ → Entry
     entry = tableEntry v s p
 
-    no-gain : (c : Counter) (q : ℕ) → gain (entries v) entry c q ≡ 0
-    no-gain c q = gain-none (entries v) entry c q (λ i _. rw (blank v _) (gives-fault c q))
+    no-gain : (c : Counter) (q : ℕ) → gain (tableEntries v) entry c q ≡ 0
+    no-gain c q = gain-none (tableEntries v) entry c q (λ i _. rw (blank v _) (gives-fault c q))
 
     no-count : someCount v s p ≡ false
     unfolding someCount someCounter someBlock
@@ -69,23 +72,23 @@ module _ {h : Told} {s : Store} (r : Running h s) (blank : Blank (s .memory)) wh
         let none : (c : Counter) (k : ℕ) → k < tableBlocks v → above (counter c s (p + k)) 0 ≡ false = λ c k l. le-ltb 0 (counter c s (p + k)) (omega (arith, blank-uncounted c (p + k - base s) (omega arith))) in
         any-avoids (λ k. someCounter (λ c. above (counter c s (p + k)) 0)) (tableBlocks v) (λ k l. rw (none writable k l, none executable k l, none linked k l) refl)
 
-    no-clash : someRegionBlock s (clashes s (entries v) entry) ≡ false
+    no-clash : someRegionBlock s (clashes s (tableEntries v) entry) ≡ false
     unfolding someBlock clash
-    no-clash = any-avoids (λ k. clashes s (entries v) entry (base s + k)) (blocks s) (λ k l. rw (no-gain writable (base s + k), no-gain executable (base s + k)) refl)
+    no-clash = any-avoids (λ k. clashes s (tableEntries v) entry (base s + k)) (blocks s) (λ k l. rw (no-gain writable (base s + k), no-gain executable (base s + k)) refl)
 
-    none-unsigned : someRegionBlock s (unsigned (h .golden) s (entries v) entry) ≡ false
+    none-unsigned : someRegionBlock s (unsigned (h .golden) s (tableEntries v) entry) ≡ false
     unfolding someBlock
-    none-unsigned = any-avoids (λ k. unsigned (h .golden) s (entries v) entry (base s + k)) (blocks s) (λ k l. rw (no-gain executable (base s + k)) refl)
+    none-unsigned = any-avoids (λ k. unsigned (h .golden) s (tableEntries v) entry (base s + k)) (blocks s) (λ k l. rw (no-gain executable (base s + k)) refl)
 
     create-passes : Passed (take 10 (createRefusals v (h .golden) s p))
-    unfolding misplaced unfitLink unfitWrite astray isUnaccepted isLink rights size grants allows
+    unfolding misplaced unfitLink unfitWrite astray isUnaccepted isLink rights coverBlocks placeBlocks grants allows
     create-passes =
         step (no-misfit r) (step image (step (inside (base s) (blocks s) p (tableBlocks v) low high) (step (same (p % tableBlocks v) 0 aligned) (step (right-type r v p typeD low high free) (step no-count
-        (step (any-avoids (λ i. isUnaccepted (entry i)) (entries v) (λ i _. rw (blank v _) refl))
-        (step (any-avoids (λ i. misplaced v s p (entry i)) (entries v) (λ i _. rw (blank v _) refl))
+        (step (any-avoids (λ i. isUnaccepted (entry i)) (tableEntries v) (λ i _. rw (blank v _) refl))
+        (step (any-avoids (λ i. misplaced v s p (entry i)) (tableEntries v) (λ i _. rw (blank v _) refl))
         (step no-clash (step none-unsigned done)))))))))
 
-    pub create-taken : Taken h s (creates v p) (createAfter v s p)
+    create-taken : Taken h s (creates v p) (createAfter v s p)
     unfolding obey createOutcome
     create-taken = taken r (creates v p) _ (createAfter v s p) refl create-passes
 
@@ -104,20 +107,20 @@ pub lawful : misfitImage golden ≡ false
 unfolding misfitImage sha256
 lawful = rw (length-tabulate (digestByte (hash (contents (memory 0) 5))) 32) refl
 
-pub page-signed : certified golden 0 (memory 0) 5 ≡ true
-unfolding certified
+pub page-signed : signedBlock golden 0 (memory 0) 5 ≡ true
+unfolding signedBlock
 page-signed = signed-by-own-digest (contents (memory 0) 5)
 
 pub begins-zeros : beginOutcome (smallStore 0 ledger) 0 .answer ≡ 0
 unfolding beginOutcome
-begins-zeros = settle-answer _ _ _ _ ∙ accepted (step (fit 0 ledger refl) done)
+begins-zeros = settle-answer _ _ _ ∙ accepted (step (fit 0 ledger refl) done)
 
 abbrev pub started : Store
 started = beginOutcome (smallStore 0 ledger) 0 .after
 
 started-memory : started .memory ≡ memory 0
 unfolding beginOutcome
-started-memory = ap (λ (x : Store). x .memory) (settle-accepted (smallStore 0 ledger) (beginAfter (smallStore 0 ledger) 0) (answerOf (beginRefusals (smallStore 0 ledger) 0)) 0 begins-zeros .1)
+started-memory = ap (λ (x : Store). x .memory) (settle-accepted (smallStore 0 ledger) (leaving (beginAfter (smallStore 0 ledger) 0)) (answerOf (beginRefusals (smallStore 0 ledger) 0)) begins-zeros .1)
 
 zeros-blank : Blank (memory 0)
 unfolding l1Entry l2Entry

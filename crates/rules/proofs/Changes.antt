@@ -7,19 +7,19 @@ use mathlib.Core.Path.{_≡_, refl, sym, _∙_}
 use Prim.Native.Nat.{ℕ, _+_, _-_, _*_, _^_, _<_, _≤_}
 use native.Mathlib.Omega.{arith}
 use lib.ListN.{length}
-use Rattle.words.proofs.Bounded.{any-avoids, below-or-above}
-use Rattle.entries.specs.Entries.{Entry}
 use borrow.Author.Tests.{ltb-false}
 use Rattle.words.specs.Bounded.{above}
 use Rattle.words.specs.Words.{word}
+use Rattle.words.proofs.Bounded.{any-avoids, below-or-above}
+use Rattle.entries.specs.Entries.{Entry}
 use Rattle.rules.specs.Store.{blockWords, ledgerHeadBytes, ledgerRecordBytes, Store, blocks, base, active, recordWord, typeWord, Counter, writable, executable, linked, counterWord, someCounter, counter, someBlock}
 use Rattle.rules.specs.Tables.{gain}
 use Rattle.rules.specs.General.{Change, added, removed, endValue, overruns, someOverrun, recounted}
 use Rattle.rules.specs.Create.{clashes}
-use Rattle.rules.specs.Steps.{Told}
-use Rattle.rules.proofs.Consistent.{Suits, Sound, sound-fault, Consistent, still, counts-limit, windowAfter, Turned, no-overrun, turned, added-exclusive, removed-exclusive}
+use Rattle.rules.specs.Steps.{Told, Root}
+use Rattle.rules.proofs.Consistent.{Suits, Sound, sound-fault, Consistent, still, counts-limit, windowAfter, Replaces, no-overrun, replaced, added-exclusive, removed-exclusive}
 use Rattle.rules.proofs.Ledger.{length-recount, head-recount, type-recount, counter-recount}
-use Rattle.rules.proofs.State.{typeAt, sealed, recorded, fit-same, activeWord, Root, entryOf, Inv, Running, running}
+use Rattle.rules.proofs.State.{typeAt, signedAt, recorded, fit-same, activeWord, entryOf, Inv, Running, running}
 
 -- a counter by the block's place in the region
 pub counter-at : (c : Counter) (s : Store) (b : ℕ) → counter c s (base s + b) ≡ recorded s c b
@@ -47,17 +47,17 @@ pub record Leaves (d : Change) (m : ℕ) (e : ℕ → Entry) (s after : Store) (
 -- the m entries e from word a on are added or removed; h was told before the call and h′ is told after it
 pub record Changes (d : Change) (a m : ℕ) (e : ℕ → Entry) (h h′ : Told) (s after : Store) : Type 0 where
   pub leaves : Leaves d m e s after h′
-  pub turn : Turned d (blockWords * blocks s) a m e (entryOf (base s) h (s .memory)) (entryOf (base s) h′ (after .memory))
+  pub replaces : Replaces d (blockWords * blocks s) a m e (entryOf (base s) h (s .memory)) (entryOf (base s) h′ (after .memory))
   -- what was counted suits the types afterwards
   pub carry : (c : Counter) (b : ℕ) → b < blocks s → 0 < recorded s c b → Suits c (typeAt (base s) h b) → Suits c (typeAt (base s) h′ b)
   -- no block that can be executed afterwards has lost its signature
-  pub keep : (b : ℕ) → b < blocks s → 0 < end d s m e executable b → sealed (base s) h′ (after .memory) b ≡ sealed (base s) h (s .memory) b
+  pub keep : (b : ℕ) → b < blocks s → 0 < end d s m e executable b → signedAt (base s) h′ (after .memory) b ≡ signedAt (base s) h (s .memory) b
 
 -- and what is added is sound, and neither 11 nor 12 applied
 pub record Fresh (m : ℕ) (e : ℕ → Entry) (h h′ : Told) (s : Store) : Type 0 where
   pub sound : (i : ℕ) → i < m → Sound (base s) (blocks s) (typeAt (base s) h′) (e i)
   pub clear : (b : ℕ) → b < blocks s → clashes s m e (base s + b) ≡ false
-  pub signs : (b : ℕ) → b < blocks s → 0 < gain m e executable (base s + b) → sealed (base s) h (s .memory) b ≡ true
+  pub signs : (b : ℕ) → b < blocks s → 0 < gain m e executable (base s + b) → signedAt (base s) h (s .memory) b ≡ true
 
 module _ {d : Change} {a m : ℕ} {e : ℕ → Entry} {h h′ : Told} {s after : Store} (r : Running h s) (change : Changes d a m e h h′ s after) where
   abbrev entries-after : ℕ → Entry
@@ -70,15 +70,15 @@ module _ {d : Change} {a m : ℕ} {e : ℕ → Entry} {h h′ : Told} {s after :
       any-avoids (λ k. someCounter (λ c. overruns d (counter c s (base s + k)) (gain m e c (base s + k)))) (blocks s)
       (λ k l. rw (one writable k l, one executable k l, one linked k l) refl) where
         one : (c : Counter) (k : ℕ) → k < blocks s → overruns d (counter c s (base s + k)) (gain m e c (base s + k)) ≡ false
-        one c k l = rw (counter-at c s k) (no-overrun (r .consistent) d a m e entries-after (change .turn) (r .fit .at-most) c k l)
+        one c k l = rw (counter-at c s k) (no-overrun (r .consistent) d a m e entries-after (change .replaces) (r .fit .at-most) c k l)
 
   changed : ((i : ℕ) → i < m → Sound (base s) (blocks s) (typeAt (base s) h′) (windowAfter d e i))
       → ((b : ℕ) → b < blocks s → 0 < end d s m e writable b → end d s m e executable b ≡ 0)
-      → ((b : ℕ) → b < blocks s → 0 < end d s m e executable b → sealed (base s) h (s .memory) b ≡ true)
+      → ((b : ℕ) → b < blocks s → 0 < end d s m e executable b → signedAt (base s) h (s .memory) b ≡ true)
       → Running h′ after
   changed new exclusive signs = running state where
-    agree : Consistent (base s) (blocks s) (typeAt (base s) h′) entries-after (sealed (base s) h′ (after .memory)) (end d s m e)
-    agree = turned (r .consistent) d a m e entries-after (change .turn) (change .carry) new exclusive (λ b l x. change .keep b l x ∙ signs b l x)
+    agree : Consistent (base s) (blocks s) (typeAt (base s) h′) entries-after (signedAt (base s) h′ (after .memory)) (end d s m e)
+    agree = replaced (r .consistent) d a m e entries-after (change .replaces) (change .carry) new exclusive (λ b l x. change .keep b l x ∙ signs b l x)
 
     state : Inv (base s) (blocks s) h′ after
     state =

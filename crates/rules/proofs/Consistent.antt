@@ -4,11 +4,11 @@ use mathlib.Core.Bool.{Bool, true, false, _&&_, _||_, and-false, false≢true}
 use mathlib.Core.Logic.{⊎-elim}
 use mathlib.Core.Path.{_≡_, refl, sym, _∙_}
 use Prim.Native.Nat.{ℕ, _+_, _-_, _*_, _<_, _≤_}
-use Rattle.words.specs.Bounded.{above}
 use native.Mathlib.Omega.{arith}
 use borrow.Author.Tests.{lt-ltb, le-ltb, ltb-true, ltb-false}
+use Rattle.words.specs.Bounded.{above}
 use Rattle.words.proofs.Bounded.{false-unless, below-or-above, window-or-outside, or-false-left, or-false-right}
-use Rattle.entries.specs.Entries.{Entry, fault, l2, isUnaccepted, size}
+use Rattle.entries.specs.Entries.{Entry, fault, l2, isUnaccepted, placeBlocks}
 use Rattle.rules.specs.Store.{blockWords, mostBlocks, counterLimit, Counter, writable, executable, linked}
 use Rattle.rules.specs.Tables.{typeD, typeCode, gives, gain, astray}
 use Rattle.rules.specs.General.{Change, added, removed, endValue, endsBelow, overruns}
@@ -35,7 +35,7 @@ pub record Consistent (B n : ℕ) (K : ℕ → ℕ) (E : ℕ → Entry) (S : ℕ
   pub signs : (b : ℕ) → b < n → 0 < counts executable b → S b ≡ true
 
 pub sound-fault : (B n : ℕ) (K : ℕ → ℕ) → Sound B n K fault
-unfolding isUnaccepted astray size
+unfolding isUnaccepted astray placeBlocks
 sound-fault B n K = record { accepted = refl; inside = refl; suits = λ c b l g. let z : false ≡ true = sym (gives-fault c (B + b)) ∙ g in absurd (false≢true z) }
 
 -- the numeric link: the words of the largest region are not more than the counters' limit
@@ -56,12 +56,12 @@ module _ {B n : ℕ} {K : ℕ → ℕ} {E : ℕ → Entry} {S : ℕ → Bool} {c
       → ((b : ℕ) → b < n → 0 < counts executable b → S′ b ≡ S b)
       → ((c : Counter) (b : ℕ) → b < n → counts′ c b ≡ counts c b)
       → Consistent B n K E′ S′ counts′
-  still {E′} {S′} {counts′} same-entry same-seal same-count =
+  still {E′} {S′} {counts′} same-entry same-signed same-count =
       record {
         counts-are = λ c b l. same-count c b l ∙ now .counts-are c b l ∙ sym (gain-same (blockWords * n) E′ c (B + b) E same-entry);
         sound = λ j l. rw (same-entry j l) (now .sound j l);
         exclusive = λ b l w. same-count executable b l ∙ now .exclusive b l (rw (same-count writable b l) at w);
-        signs = λ b l x. let y : 0 < counts executable b = rw (same-count executable b l) at x in same-seal b l y ∙ now .signs b l y;
+        signs = λ b l x. let y : 0 < counts executable b = rw (same-count executable b l) at x in same-signed b l y ∙ now .signs b l y;
       }
 
 -- the entries of a window before and after e is added or removed
@@ -74,22 +74,22 @@ windowAfter added e i = e i
 windowAfter removed e i = fault
 
 -- the m entries e are added to the words from a on, or removed from them, and nothing else changes
-pub record Turned (d : Change) (words a m : ℕ) (e E E′ : ℕ → Entry) : Type 0 where
-  pub within : a + m ≤ words
+pub record Replaces (d : Change) (all a m : ℕ) (e E E′ : ℕ → Entry) : Type 0 where
+  pub within : a + m ≤ all
   pub before : (i : ℕ) → i < m → E (a + i) ≡ windowBefore d e i
   pub after : (i : ℕ) → i < m → E′ (a + i) ≡ windowAfter d e i
-  pub same : (j : ℕ) → j < words → (a ≤ j → a + m ≤ j) → E′ j ≡ E j
+  pub same : (j : ℕ) → j < all → (a ≤ j → a + m ≤ j) → E′ j ≡ E j
 
 module _ {B n : ℕ} {K : ℕ → ℕ} {E : ℕ → Entry} {S : ℕ → Bool} {counts : Counter → ℕ → ℕ} (now : Consistent B n K E S counts)
-    (d : Change) (a m : ℕ) (e E′ : ℕ → Entry) (turn : Turned d (blockWords * n) a m e E E′) where
+    (d : Change) (a m : ℕ) (e E′ : ℕ → Entry) (window : Replaces d (blockWords * n) a m e E E′) where
   -- the counters afterwards
   abbrev pub counts-after : Counter → ℕ → ℕ
   counts-after c b = endValue d (counts c b) (gain m e c (B + b))
 
   no-more : (c : Counter) (b : ℕ) → b < n → gain m (windowBefore d e) c (B + b) ≤ counts c b
   no-more c b l =
-      rw (now .counts-are c b l, ← gain-same m (λ i. E (a + i)) c (B + b) (windowBefore d e) (turn .before))
-      (gain-part (blockWords * n) E c (B + b) a m (turn .within))
+      rw (now .counts-are c b l, ← gain-same m (λ i. E (a + i)) c (B + b) (windowBefore d e) (window .before))
+      (gain-part (blockWords * n) E c (B + b) a m (window .within))
 
   gain-faults : (c : Counter) (p : ℕ) → gain m (λ i. fault) c p ≡ 0
   gain-faults c p = gain-none m (λ i. fault) c p (λ i l. gives-fault c p)
@@ -105,9 +105,9 @@ module _ {B n : ℕ} {K : ℕ → ℕ} {E : ℕ → Entry} {S : ℕ → Bool} {c
 
   counts-are-after : (c : Counter) (b : ℕ) → b < n → counts-after c b ≡ gain (blockWords * n) E′ c (B + b)
   counts-are-after c b l =
-      let w = gain-window (blockWords * n) E′ c (B + b) E a m (turn .within) (turn .same) in
-      let o = gain-same m (λ i. E (a + i)) c (B + b) (windowBefore d e) (turn .before) in
-      let p = gain-same m (λ i. E′ (a + i)) c (B + b) (windowAfter d e) (turn .after) in
+      let w = gain-window (blockWords * n) E′ c (B + b) E a m (window .within) (window .same) in
+      let o = gain-same m (λ i. E (a + i)) c (B + b) (windowBefore d e) (window .before) in
+      let p = gain-same m (λ i. E′ (a + i)) c (B + b) (windowAfter d e) (window .after) in
       omega (arith, balance c b l, now .counts-are c b l)
 
   -- 13 does not arise
@@ -122,22 +122,22 @@ module _ {B n : ℕ} {K : ℕ → ℕ} {E : ℕ → Entry} {S : ℕ → Bool} {c
     upper = rw (counts-are-after c b l) (omega (arith, gain-most (blockWords * n) E′ c (B + b), words-limit n h))
 
   -- tables and counters agree afterwards, given that what was counted still suits the types and the new entries are sound
-  pub turned : {K′ : ℕ → ℕ} {S′ : ℕ → Bool}
+  pub replaced : {K′ : ℕ → ℕ} {S′ : ℕ → Bool}
       → ((c : Counter) (b : ℕ) → b < n → 0 < counts c b → Suits c (K b) → Suits c (K′ b))
       → ((i : ℕ) → i < m → Sound B n K′ (windowAfter d e i))
       → ((b : ℕ) → b < n → 0 < counts-after writable b → counts-after executable b ≡ 0)
       → ((b : ℕ) → b < n → 0 < counts-after executable b → S′ b ≡ true)
       → Consistent B n K′ E′ S′ counts-after
-  turned {K′} carry new exclusive signs = record { counts-are = counts-are-after; sound = sound; exclusive = exclusive; signs = signs } where
+  replaced {K′} carry new exclusive signs = record { counts-are = counts-are-after; sound = sound; exclusive = exclusive; signs = signs } where
     kept : (j : ℕ) → j < blockWords * n → (a ≤ j → a + m ≤ j) → Sound B n K′ (E′ j)
     kept j l o =
         let q = now .sound j l in
-        rw (turn .same j l o) (record { accepted = q .accepted; inside = q .inside; suits = λ c b h g. carry c b h (counted now c b j h l g) (q .suits c b h g) })
+        rw (window .same j l o) (record { accepted = q .accepted; inside = q .inside; suits = λ c b h g. carry c b h (counted now c b j h l g) (q .suits c b h g) })
 
     entered : (j : ℕ) → a ≤ j → j < a + m → Sound B n K′ (E′ j)
     entered j lo hi =
         let i : a + (j - a) ≡ j = omega arith in
-        let q : Sound B n K′ (E′ (a + (j - a))) = rw (turn .after (j - a) (omega arith)) (new (j - a) (omega arith)) in
+        let q : Sound B n K′ (E′ (a + (j - a))) = rw (window .after (j - a) (omega arith)) (new (j - a) (omega arith)) in
         rw i at q
 
     sound : (j : ℕ) → j < blockWords * n → Sound B n K′ (E′ j)

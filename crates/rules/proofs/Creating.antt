@@ -2,34 +2,34 @@
 -- other, and what they let execute is signed; the blocks themselves had no counts.
 use mathlib.Core.Bool.{Bool, true, false, _&&_, _||_, false≢true}
 use mathlib.Core.Path.{_≡_, refl, sym, _∙_}
+use mathlib.Core.List.{List}
 use Prim.Native.Nat.{ℕ, _+_, _-_, _<_, _≤_}
 use native.Mathlib.Omega.{arith}
 use borrow.Author.Tests.{lt-ltb, not-false}
 use Rattle.words.specs.Bounded.{above, neqb, any, among}
 use Rattle.words.proofs.Bounded.{any-none, or-false-left, or-false-right, and-false-right, among-in}
-use Rattle.entries.specs.Entries.{Entry, Level, l2, isUnaccepted, isLink, first, size}
+use Rattle.entries.specs.Entries.{Entry, Level, l2, isUnaccepted, isLink, coverFirst, coverBlocks}
 use Rattle.rules.specs.Store.{Store, blocks, base, Counter, writable, executable, linked, someCounter, typeOf, counter, someBlock, someRegionBlock}
-use Rattle.rules.specs.Tables.{typeD, typeCode, tableBlocks, entries, tableEntry, grants, gives, gain, astray}
-use Rattle.rules.specs.General.{added, someOverrun, tableOutside, otherType}
+use Rattle.rules.specs.Tables.{typeD, typeCode, tableBlocks, tableEntries, tableEntry, grants, gives, gain, astray}
+use Rattle.rules.specs.General.{added, retyped, someOverrun, tableOutside, otherType}
 use Rattle.rules.specs.Create.{someCount, unfitLink, unfitWrite, misplaced, clashes, unsigned, createRefusals, createAfter, createOutcome}
 use Rattle.rules.specs.Steps.{creates, Told, afterAccepted, typed}
 use Rattle.rules.proofs.Refusals.{Passed, front, now, rest}
 use Rattle.rules.proofs.Gains.{gives-within}
 use Rattle.rules.proofs.Consistent.{Suits, Sound}
-use Rattle.rules.proofs.State.{typeAt, sealed, recorded, Running, equal, within, no-block, no-block-at, no-counter, types-told, type-told, Next, next-13}
+use Rattle.rules.proofs.State.{typeAt, signedAt, recorded, Running, equal, within, no-block, no-block-at, no-counter, types-told, type-told, Next, next-13}
 use Rattle.rules.proofs.Changes.{counter-none, adds}
-use Rattle.rules.proofs.Typing.{retold, retyped, typing-leaves, typing-turned, stays, root-stays, other-table}
-use mathlib.Core.List.{List}
+use Rattle.rules.proofs.Typing.{retold, typing-leaves, typing-replaces, stays, root-stays, other-table}
 
 -- what passed the tests of a create
 record Creatable (v : Level) (golden : List ℕ) (s : Store) (p : ℕ) : Type 0 where
   table-inside : tableOutside v s p ≡ false
   free : otherType v s p typeD ≡ false
   uncounted : someCount v s p ≡ false
-  accepted : any (entries v) (λ i. isUnaccepted (tableEntry v s p i)) ≡ false
-  placed : any (entries v) (λ i. misplaced v s p (tableEntry v s p i)) ≡ false
-  clear : someRegionBlock s (clashes s (entries v) (tableEntry v s p)) ≡ false
-  signs : someRegionBlock s (unsigned golden s (entries v) (tableEntry v s p)) ≡ false
+  accepted : any (tableEntries v) (λ i. isUnaccepted (tableEntry v s p i)) ≡ false
+  placed : any (tableEntries v) (λ i. misplaced v s p (tableEntry v s p i)) ≡ false
+  clear : someRegionBlock s (clashes s (tableEntries v) (tableEntry v s p)) ≡ false
+  signs : someRegionBlock s (unsigned golden s (tableEntries v) (tableEntry v s p)) ≡ false
 
 creatable : (v : Level) (golden : List ℕ) (s : Store) (p : ℕ) → Passed (front (createRefusals v golden s p)) → Creatable v golden s p
 creatable v golden s p t1 =
@@ -54,20 +54,20 @@ module _ (v : Level) (s : Store) (p : ℕ) (x : Entry) where
 
   record Placed : Type 0 where
     inside : astray (base s) (blocks s) x ≡ false
-    link-L2 : isLink x ≡ true → someBlock (first x) (size x) notL2 ≡ false
-    write-free : grants writable x ≡ true → someBlock (first x) (size x) notFree ≡ false
+    link-L2 : isLink x ≡ true → someBlock (coverFirst x) (coverBlocks x) notL2 ≡ false
+    write-free : grants writable x ≡ true → someBlock (coverFirst x) (coverBlocks x) notFree ≡ false
 
   place : misplaced v s p x ≡ false → Placed
   unfolding misplaced unfitLink unfitWrite
   place e =
       let stray = astray (base s) (blocks s) x in
-      let badLink = isLink x && someBlock (first x) (size x) notL2 in
-      let badWrite = grants writable x && someBlock (first x) (size x) notFree in
+      let badLink = isLink x && someBlock (coverFirst x) (coverBlocks x) notL2 in
+      let badWrite = grants writable x && someBlock (coverFirst x) (coverBlocks x) notFree in
       let e′ = or-false-left (stray || badLink) badWrite e in
       record {
         inside = or-false-left stray badLink e′;
-        link-L2 = and-false-right (isLink x) (someBlock (first x) (size x) notL2) (or-false-right stray badLink e′);
-        write-free = and-false-right (grants writable x) (someBlock (first x) (size x) notFree) (or-false-right (stray || badLink) badWrite e);
+        link-L2 = and-false-right (isLink x) (someBlock (coverFirst x) (coverBlocks x) notL2) (or-false-right stray badLink e′);
+        write-free = and-false-right (grants writable x) (someBlock (coverFirst x) (coverBlocks x) notFree) (or-false-right (stray || badLink) badWrite e);
       }
 
 module _ (v : Level) (p : ℕ) {h : Told} {s : Store} (r : Running h s) (can : Creatable v (h .golden) s p) where
@@ -93,7 +93,7 @@ module _ (v : Level) (p : ℕ) {h : Told} {s : Store} (r : Running h s) (can : C
   new-suits x placed writable b l g =
       let q = base s + b in
       let (grant, lo, hi) = gives-within writable x q g in
-      let t = no-block-at (first x) (size x) (notFree v s p x) (placed .write-free grant) q lo hi in
+      let t = no-block-at (coverFirst x) (coverBlocks x) (notFree v s p x) (placed .write-free grant) q lo hi in
       let is = sym (type-told r q (omega arith) (omega arith)) ∙ equal (typeOf s q) typeD (or-false-left (neqb (typeOf s q) typeD) (own v s p x q) t) in
       stays added v p r low high writable b is
       (λ from to. let o : own v s p x q ≡ true = among-in p (tableBlocks v) q from to in
@@ -102,33 +102,33 @@ module _ (v : Level) (p : ℕ) {h : Told} {s : Store} (r : Running h s) (can : C
   new-suits x placed linked b l g =
       let q = base s + b in
       let (grant, lo, hi) = gives-within linked x q g in
-      let t = no-block-at (first x) (size x) (notL2 v s p x) (placed .link-L2 grant) q lo hi in
+      let t = no-block-at (coverFirst x) (coverBlocks x) (notL2 v s p x) (placed .link-L2 grant) q lo hi in
       let is = sym (type-told r q (omega arith) (omega arith)) ∙ equal (typeOf s q) (typeCode l2) t in
       stays added v p r low high linked b is
       (λ from to. let i : p + (q - p) ≡ q = omega arith in let z : ⊥ = omega (arith, is, rw i at (was (q - p) (omega arith))) in absurd z)
 
-  created : (someOverrun added s (entries v) (tableEntry v s p) ≡ false) × Running (retold added v p h) (retyped added v s p)
+  created : (someOverrun added s (tableEntries v) (tableEntry v s p) ≡ false) × Running (retold added v p h) (retyped added v s p)
   created =
       adds r
       (record {
         leaves = typing-leaves added v p r low high (λ q z. root-stays added v p r low high q z (λ x. other-table (h .types) p q (tableBlocks v) typeD x was (r .root q z .typed) (λ e. omega arith)));
-        turn = typing-turned added v p r low high was;
+        replaces = typing-replaces added v p r low high was;
         carry = λ c b l k suits. stays added v p r low high c b suits (λ lo hi. let z : ⊥ = omega (arith, no-count c b lo hi) in absurd z);
         keep = λ b l x. refl;
       })
-      (record { sound = sound; clear = no-block (base s) (blocks s) (clashes s (entries v) e) (can .clear); signs = signs }) where
+      (record { sound = sound; clear = no-block (base s) (blocks s) (clashes s (tableEntries v) e) (can .clear); signs = signs }) where
         e : ℕ → Entry
         e = tableEntry v s p
 
-        sound : (i : ℕ) → i < entries v → Sound (base s) (blocks s) (typeAt (base s) (retold added v p h)) (e i)
+        sound : (i : ℕ) → i < tableEntries v → Sound (base s) (blocks s) (typeAt (base s) (retold added v p h)) (e i)
         sound i l =
-            let placed = place v s p (e i) (any-none (λ i. misplaced v s p (e i)) (entries v) (can .placed) i l) in
-            record { accepted = any-none (λ i. isUnaccepted (e i)) (entries v) (can .accepted) i l; inside = placed .inside; suits = new-suits (e i) placed }
+            let placed = place v s p (e i) (any-none (λ i. misplaced v s p (e i)) (tableEntries v) (can .placed) i l) in
+            record { accepted = any-none (λ i. isUnaccepted (e i)) (tableEntries v) (can .accepted) i l; inside = placed .inside; suits = new-suits (e i) placed }
 
-        signs : (b : ℕ) → b < blocks s → 0 < gain (entries v) e executable (base s + b) → sealed (base s) h (s .memory) b ≡ true
+        signs : (b : ℕ) → b < blocks s → 0 < gain (tableEntries v) e executable (base s + b) → signedAt (base s) h (s .memory) b ≡ true
         signs b l g =
-            not-false (sealed (base s) h (s .memory) b)
-            (rw (lt-ltb 0 (gain (entries v) e executable (base s + b)) g) at (no-block (base s) (blocks s) (unsigned (h .golden) s (entries v) e) (can .signs) b l))
+            not-false (signedAt (base s) h (s .memory) b)
+            (rw (lt-ltb 0 (gain (tableEntries v) e executable (base s + b)) g) at (no-block (base s) (blocks s) (unsigned (h .golden) s (tableEntries v) e) (can .signs) b l))
 
 pub create-next : (v : Level) (p : ℕ) {h : Told} {s : Store} → Running h s → Next h (creates v p) (createOutcome v (h .golden) s p)
 unfolding createOutcome afterAccepted

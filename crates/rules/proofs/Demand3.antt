@@ -114,7 +114,7 @@ module _ (golden : List ℕ) where
   answered s (step ∷ steps) (suc i) k e = answered (obey golden s step .after) steps i k e
 
   -- demand 3 of a list that starts from a running state
-  pub demanded : {B : ℕ} {s : Store} → Running (begun B golden) s → (steps : List Step) → Demand3 golden B s steps
+  demanded : {B : ℕ} {s : Store} → Running (begun B golden) s → (steps : List Step) → Demand3 golden B s steps
   unfolding obey
   demanded {B} {s} r steps =
       record {

@@ -3,12 +3,13 @@ use mathlib.Core.Bool.{true, false}
 use mathlib.Core.Path.{_≡_, refl}
 use Prim.Native.Nat.{ℕ, _+_, _-_, _*_, _%_, _≤_}
 use native.Mathlib.Omega.{arith}
-use borrow.Author.Tests.{lt-ltb, le-ltb}
 use lib.ListN.{length}
+use borrow.Author.Tests.{lt-ltb, le-ltb}
 use Rattle.words.proofs.Bounded.{same}
 use Rattle.entries.specs.Entries.{l1, l2}
 use Rattle.rules.specs.Refusals.{answerOf}
-use Rattle.rules.specs.Store.{blockBytes, leastBlocks, mostBlocks, ledgerHeadBytes, ledgerRecordBytes, baseAlignment, physicalBlocks, Store, blocks, outside, misfit, settle}
+use Rattle.rules.specs.Store.{blockBytes, leastBlocks, mostBlocks, ledgerHeadBytes, ledgerRecordBytes, baseAlignment, physicalBlocks, Store, blocks, outside, misfit}
+use Rattle.rules.specs.Outcomes.{settle}
 use Rattle.rules.specs.Begin.{beginOutcome}
 use Rattle.rules.specs.General.{beyondTable}
 

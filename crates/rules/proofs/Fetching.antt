@@ -5,6 +5,7 @@ use mathlib.Core.List.{List, [], _∷_}
 use mathlib.Core.Option.{none, some}
 use mathlib.Core.Path.{_≡_, refl, _∙_, ap}
 use Prim.Native.Nat.{ℕ, _+_, _-_, _<_, _≤_}
+use native.Mathlib.Nat.{add-zero}
 use native.Mathlib.Omega.{arith}
 use lib.ListN.{getD, getElem?, take}
 use borrow.Author.Tests.{le-ltb}
@@ -12,10 +13,11 @@ use Rattle.words.specs.Bounded.{num}
 use Rattle.words.proofs.Bounded.{any-avoids, same}
 use Rattle.entries.specs.Entries.{Entry, fault, page, l1, l2, entryAt, isFault, rights}
 use Rattle.entries.specs.Written.{wordOf, cacheable}
+use Rattle.entries.specs.Rights.{allows}
 use Rattle.entries.proofs.Decoding.{entryAt-cong}
 use Rattle.entries.proofs.RoundTrip.{readExecute}
 use Rattle.rules.specs.Store.{Store, blocks, base, Counter, writable, executable, counter, typeOf, fill}
-use Rattle.rules.specs.Tables.{typeD, typeCode, tableBlocks, pages, wordIndex, tableEntry, gives, grants, allows}
+use Rattle.rules.specs.Tables.{typeD, typeCode, tableBlocks, pages, wordIndex, tableEntry, gives, grants}
 use Rattle.rules.specs.General.{added, endValue, entered}
 use Rattle.rules.specs.Link.{linkTo, linkRefusals, linkOutcome}
 use Rattle.rules.specs.Switch.{switchAfter}
@@ -26,11 +28,11 @@ use Rattle.rules.specs.Policies.{FetchedCode}
 use Rattle.rules.proofs.Refusals.{Passed, done, step}
 use Rattle.rules.proofs.Gains.{gain-none}
 use Rattle.rules.proofs.Ledger.{typed-in, typed-out}
-use Rattle.rules.proofs.Memory.{length-fill, contents-fill, certified-same, entryAt-fill-other}
-use Rattle.rules.proofs.State.{recorded, type-told}
+use Rattle.rules.proofs.Memory.{length-fill, contents-fill, signedBlock-same, entryAt-fill-other}
+use Rattle.rules.proofs.State.{inside, recorded, type-told}
 use Rattle.rules.proofs.Changes.{end, counter-recounted}
 use Rattle.rules.proofs.Demand3.{demand3}
-use Rattle.rules.proofs.Passing.{Taken, taken, no-misfit, inside, right-type, switch-taken, access-accepted}
+use Rattle.rules.proofs.Passing.{Taken, taken, no-misfit, right-type, switch-taken, access-accepted}
 use Rattle.rules.proofs.InTurn.{Alone, Went, map-goes}
 use Rattle.rules.proofs.Policies.{policies}
 use Rattle.rules.proofs.Accepted.{map-enters, page-grants, link-enters}
@@ -61,9 +63,9 @@ module _ {s : Store} (z : Zeros withBoth s) where
       (step (any-avoids (λ k. not (isFault (tableEntry l1 s 0 (0 + k)))) 1 (λ k l. rw (blank z l1 _) refl))
       (step (inside (base s) (blocks s) 4 1 (omega arith) (omega arith)) (step (same (typeOf s 4) (typeCode l2) (type-told (z .runs) 4 (omega arith) (omega arith) ∙ refl)) done)))))))))
 
-  link-taken : Taken (toldOf withBoth none) s (links 0 0 4 0) (entered s 0 0 1 (linkTo 4 0))
+  link-taken : Taken (toldOf withBoth none) s (links 0 0 4 0) (entered s 0 0 1 (λ k. linkTo 4 0))
   unfolding obey linkOutcome
-  link-taken = taken (z .runs) (links 0 0 4 0) _ (entered s 0 0 1 (linkTo 4 0)) refl link-passes
+  link-taken = taken (z .runs) (links 0 0 4 0) _ (entered s 0 0 1 (λ k. linkTo 4 0)) refl link-passes
 
   abbrev linked : Store
   linked = obey golden s (links 0 0 4 0) .after
@@ -82,9 +84,9 @@ module _ {s : Store} (z : Zeros withBoth s) where
   unfolding typed gives grants allows rights num
   linked-alone =
       let a = wordIndex s 0 0 in
-      let w = wordOf cacheable (linkTo 4 0) in
+      let w : ℕ → ℕ = λ k. wordOf cacheable (linkTo 4 0) in
       let based = z .runs .told-base in
-      let more : 8 ≤ blocks linked = rw (link-taken .leaves) (omega (arith, length-fill (s .memory) a 1 w, eight z)) in
+      let more : 8 ≤ blocks linked = rw (link-taken .leaves) (omega (arith, length-fill (s .memory) a w 1, eight z)) in
       record {
         table-low = omega arith;
         table-high = omega arith;
@@ -93,8 +95,8 @@ module _ {s : Store} (z : Zeros withBoth s) where
         low = omega arith;
         high = omega arith;
         free = refl;
-        signs = rw (link-taken .leaves) (certified-same golden 0 (fill (s .memory) a 1 w) (s .memory) 5 (contents-fill (s .memory) a 1 w 5 (λ k. omega arith)) ∙ rw (z .zeros) page-signed);
-        holds = rw (link-taken .leaves) (entryAt-fill-other l2 (s .memory) a 1 w 4096 (λ l. omega arith) ∙ blank z l2 4096);
+        signs = rw (link-taken .leaves) (signedBlock-same golden 0 (fill (s .memory) a 1 w) (s .memory) 5 (contents-fill (s .memory) a w 1 5 (λ k. omega arith)) ∙ rw (z .zeros) page-signed);
+        holds = rw (link-taken .leaves) (entryAt-fill-other (s .memory) a w l2 1 4096 (λ l. omega arith) ∙ blank z l2 4096);
         only = rw (linked-uncounted writable (λ q. refl) 5 (omega arith), linked-uncounted executable (λ q. refl) 5 (omega arith)) refl;
         holder-unexecuted = linked-uncounted executable (λ q. refl) 4 (omega arith);
       }
@@ -116,7 +118,7 @@ module _ {s : Store} (z : Zeros withBoth s) where
       let enters = map-enters pages golden linked 4 0 5 5 (mapped .accepted) in
       let still : entryAt l1 (ready .memory) a ≡ entryAt l1 (linked .memory) a = entryAt-cong l1 (ready .memory) (linked .memory) a (λ k near. enters .others k (λ e. omega arith)) in
       let at : a ≡ wordIndex s 0 0 = omega arith in
-      let through = still ∙ ap (entryAt l1 (linked .memory)) at ∙ link-enters s 0 0 4 0 (link-taken .accepted) .decodes in
+      let through = still ∙ ap (entryAt l1 (linked .memory)) at ∙ rw add-zero at (link-enters s 0 0 4 0 (link-taken .accepted) .decodes 0 (omega arith)) in
       rw (enters .same-length) (rw (← linked-based) at (page-grants golden linked 4 0 5 5 (mapped .accepted) 0 0 through refl))
 
   switched : Taken (toldOf withBoth none) ready (switches 0) (switchAfter ready 0)

@@ -7,15 +7,15 @@ use native.Mathlib.Omega.{arith}
 use borrow.Author.Tests.{ltb-false, eqb-false}
 use Rattle.entries.specs.Entries.{Level, l1, l2}
 use Rattle.rules.specs.Store.{Store, blocks, base, active, Counter, writable, executable, linked, counter}
-use Rattle.rules.specs.Tables.{typeD, typeCode, tableBlocks, entries, tableEntry}
-use Rattle.rules.specs.General.{removed, someOverrun, tableOutside, otherType}
+use Rattle.rules.specs.Tables.{typeD, typeCode, tableBlocks, tableEntries, tableEntry}
+use Rattle.rules.specs.General.{removed, retyped, someOverrun, tableOutside, otherType}
 use Rattle.rules.specs.Free.{freeRefusals, freeAfter, freeOutcome, inUse}
 use Rattle.rules.specs.Steps.{frees, Told, afterAccepted, typed}
 use Rattle.rules.proofs.Refusals.{Passed, front, now, rest}
 use Rattle.rules.proofs.Consistent.{Suits}
 use Rattle.rules.proofs.State.{typeAt, recorded, activeWord, Running, equal, within, types-told, Next, next-13}
 use Rattle.rules.proofs.Changes.{removes}
-use Rattle.rules.proofs.Typing.{retold, retyped, typing-leaves, typing-turned, stays, root-stays, other-table}
+use Rattle.rules.proofs.Typing.{retold, typing-leaves, typing-replaces, stays, root-stays, other-table}
 
 -- what passed the tests of a free
 record Freeable (v : Level) (s : Store) (p : ℕ) : Type 0 where
@@ -54,13 +54,13 @@ module _ (p : ℕ) {h : Told} {s : Store} (r : Running h s) where
       eqb-false (active s) p (can .unused) (r .active-is ∙ ap activeWord z ∙ same)
   not-root l2 q z can was x lo hi lo′ hi′ = other-table (h .types) p q (tableBlocks l2) (typeCode l2) x was (r .root q z .typed) (λ e. omega arith) lo hi lo′ hi′
 
-  freed : (v : Level) → Freeable v s p → (someOverrun removed s (entries v) (tableEntry v s p) ≡ false) × Running (retold removed v p h) (retyped removed v s p)
+  freed : (v : Level) → Freeable v s p → (someOverrun removed s (tableEntries v) (tableEntry v s p) ≡ false) × Running (retold removed v p h) (retyped removed v s p)
   freed v can =
       let (low, high) = within (base s) (blocks s) p (tableBlocks v) (can .table-inside) in
       let was = types-told r v p (typeCode v) (can .table-inside) (can .typed) in
       removes r (record {
         leaves = typing-leaves removed v p r low high (λ q z. root-stays removed v p r low high q z (not-root v q z can was));
-        turn = typing-turned removed v p r low high was;
+        replaces = typing-replaces removed v p r low high was;
         carry = λ c b l k suits. stays removed v p r low high c b suits (λ lo hi. freed-suits c v b k (can .unused) lo hi (was-table v was c b lo hi suits));
         keep = λ b l x. refl;
       }) where

@@ -8,9 +8,11 @@ use borrow.Author.Tests.{lt-ltb}
 use Rattle.words.specs.Bounded.{above, any, sum, num}
 use Rattle.words.proofs.Bounded.{any-found, and-true, among-in, among-within}
 use Rattle.words.proofs.Sums.{sum-same, sum-cut, sum-window, count-most, count-hit, count-none, count-any}
-use Rattle.entries.specs.Entries.{Entry, fault, unaccepted, link, section, page, isFault, isLink, rights, first, size, covers}
+use Rattle.entries.specs.Entries.{Entry, fault, unaccepted, link, section, page, isFault, isLink, rights, placeBlocks, coverFirst, coverBlocks, covers}
+use Rattle.entries.specs.Rights.{allows}
+use Rattle.entries.proofs.Covers.{cover-some}
 use Rattle.rules.specs.Store.{Counter, writable, executable, linked}
-use Rattle.rules.specs.Tables.{allows, grants, gives, gain}
+use Rattle.rules.specs.Tables.{grants, gives, gain}
 
 pub fault-is : (e : Entry) → isFault e ≡ true → e ≡ fault
 unfolding isFault
@@ -26,29 +28,32 @@ gives-fault writable p = refl
 gives-fault executable p = refl
 gives-fault linked p = refl
 
--- a block that is given something lies in the entry's place
-pub gives-within : (c : Counter) (e : Entry) (p : ℕ) → gives c e p ≡ true → (grants c e ≡ true) × (first e ≤ p) × (p < first e + size e)
+-- a block that is given something is covered by the entry
+pub gives-within : (c : Counter) (e : Entry) (p : ℕ) → gives c e p ≡ true → (grants c e ≡ true) × (coverFirst e ≤ p) × (p < coverFirst e + coverBlocks e)
 unfolding gives covers
 gives-within c e p h =
-    let (g, t) = and-true (grants c e) (covers e p) h in let (lo, hi) = among-within (first e) (size e) p t in (g, lo, hi)
+    let (g, t) = and-true (grants c e) (covers e p) h in let (lo, hi) = among-within (coverFirst e) (coverBlocks e) p t in (g, lo, hi)
 
--- what gives something has a place
-pub grants-size : (c : Counter) (e : Entry) → grants c e ≡ true → 0 < size e
-unfolding grants allows rights isLink size
-grants-size c (link p) h = omega arith
-grants-size c (section b r) h = omega arith
-grants-size c (page b r) h = omega arith
-grants-size writable fault h = absurd (false≢true h)
-grants-size executable fault h = absurd (false≢true h)
-grants-size linked fault h = absurd (false≢true h)
-grants-size writable unaccepted h = absurd (false≢true h)
-grants-size executable unaccepted h = absurd (false≢true h)
-grants-size linked unaccepted h = absurd (false≢true h)
+-- what gives something has a place, and covers a block
+pub grants-place : (c : Counter) (e : Entry) → grants c e ≡ true → 0 < placeBlocks e
+unfolding grants allows rights isLink placeBlocks
+grants-place c (link p) h = omega arith
+grants-place c (section b r) h = omega arith
+grants-place c (page b r) h = omega arith
+grants-place writable fault h = absurd (false≢true h)
+grants-place executable fault h = absurd (false≢true h)
+grants-place linked fault h = absurd (false≢true h)
+grants-place writable unaccepted h = absurd (false≢true h)
+grants-place executable unaccepted h = absurd (false≢true h)
+grants-place linked unaccepted h = absurd (false≢true h)
 
--- a block of the place of an entry that grants something is given it
-pub gives-at : (c : Counter) (e : Entry) (b : ℕ) → grants c e ≡ true → first e ≤ b → b < first e + size e → gives c e b ≡ true
+pub grants-cover : (c : Counter) (e : Entry) → grants c e ≡ true → 0 < coverBlocks e
+grants-cover c e h = cover-some e (grants-place c e h)
+
+-- a block that an entry covers that grants something is given it
+pub gives-at : (c : Counter) (e : Entry) (b : ℕ) → grants c e ≡ true → coverFirst e ≤ b → b < coverFirst e + coverBlocks e → gives c e b ≡ true
 unfolding gives covers
-gives-at c e b g lo hi = rw (g, among-in (first e) (size e) b lo hi) refl
+gives-at c e b g lo hi = rw (g, among-in (coverFirst e) (coverBlocks e) b lo hi) refl
 
 module _ (m : ℕ) (e : ℕ → Entry) (c : Counter) (p : ℕ) where
   pub gain-most : gain m e c p ≤ m
@@ -61,7 +66,7 @@ module _ (m : ℕ) (e : ℕ → Entry) (c : Counter) (p : ℕ) where
   gain-more = rw (add-one m) refl
 
   -- some entry gives exactly if there is a gain
-  pub gain-any : above (gain m e c p) 0 ≡ any m (λ i. gives c (e i) p)
+  gain-any : above (gain m e c p) 0 ≡ any m (λ i. gives c (e i) p)
   unfolding gain
   gain-any = count-any (λ i. gives c (e i) p) m
 

@@ -14,17 +14,18 @@ use Rattle.words.specs.Words.{word}
 use Rattle.words.proofs.Bounded.{or-false-left}
 use Rattle.words.proofs.Words.{word-cong}
 use Rattle.entries.specs.Entries.{Entry, Level, l1, rights}
+use Rattle.entries.specs.Rights.{allows}
 use Rattle.entries.proofs.Decoding.{entryAt-cong}
 use Rattle.rules.specs.Refusals.{Refusal, _if_, answerOf}
 use Rattle.rules.specs.Store.{blockBytes, blockWords, Store, blocks, base, active, recordWord, Counter, writable, executable, counterWord, misfit}
-use Rattle.rules.specs.Signature.{contents, certified}
-use Rattle.rules.specs.Tables.{typeD, tableBlocks, allows, grants, gives}
+use Rattle.rules.specs.Signature.{contents, signedBlock}
+use Rattle.rules.specs.Tables.{typeD, tableBlocks, grants, gives}
 use Rattle.rules.specs.General.{tableOutside, misaligned}
-use Rattle.rules.specs.Guest.{Walk, stops, ends, byteIndex, Access, reads, fetches, writes, needed, walkRefusals, noActiveTable, activeWalk, guestRefusals, written, byteGiven, guestAfter, guestOutcome}
+use Rattle.rules.specs.Guest.{Walk, stops, ends, byteIndex, Access, reads, fetches, writes, needed, walkRefusals, noActiveTable, activeWalk, guestRefusals, written, byteGiven, guestAccepted, guestOutcome}
 use Rattle.rules.specs.Steps.{accesses, Told, afterAccepted}
 use Rattle.rules.specs.Demand3.{KeepsTables, Fetched}
 use Rattle.rules.proofs.Refusals.{Passed, Avoids, now, rest, passed, avoided}
-use Rattle.rules.proofs.Memory.{contents-set, certified-same}
+use Rattle.rules.proofs.Memory.{contents-set, signedBlock-same}
 use Rattle.rules.proofs.Consistent.{Suits, counted, still}
 use Rattle.rules.proofs.State.{within, fit-same, entryOf, activeWord, Running, running, Next, next, settle-keeps, settle-accepted}
 use Rattle.rules.proofs.Tables.{entryOf-data, typedEntry-same}
@@ -125,7 +126,7 @@ module _ {h : Told} {s : Store} (r : Running h s) where
         away k e = word-cong (set (s .memory) j v) (s .memory) (4 * k) (λ x lo hi. getD-set-other (s .memory) j x v 0 (λ q. o (omega arith)))
 
     write-runs : Running h wrote
-    unfolding wrote certified
+    unfolding wrote signedBlock
     write-runs = running (record {
       told-base = r .told-base;
       fit = fit-same wrote (r .fit) (length-set (s .memory) j v) refl;
@@ -134,12 +135,12 @@ module _ {h : Told} {s : Store} (r : Running h s) where
       types-are = r .types-are;
       root = r .root;
       consistent = still (r .consistent) (λ i l. same-entry i)
-          (λ c l x. certified-same (h .golden) (base s) (set (s .memory) j v) (s .memory) c (other-contents c (λ q. omega (arith, x, rw q at unexecuted))))
+          (λ c l x. signedBlock-same (h .golden) (base s) (set (s .memory) j v) (s .memory) c (other-contents c (λ q. omega (arith, x, rw q at unexecuted))))
           (λ c d l. refl);
     })
 
   -- an accepted access runs on and leaves the tables alone
-  guest-keeps : (a : Access) (addr : ℕ) → Arrived h s a addr → Running h (guestAfter a s addr) × KeepsTables h s (guestAfter a s addr)
+  guest-keeps : (a : Access) (addr : ℕ) → Arrived h s a addr → Running h (guestAccepted a s addr .store) × KeepsTables h s (guestAccepted a s addr .store)
   unfolding written byteIndex needed grants wrote
   guest-keeps reads addr t = (r, λ b l n. refl)
   guest-keeps fetches addr t = (r, λ b l n. refl)
@@ -183,7 +184,7 @@ module _ {h : Told} {s : Store} (r : Running h s) where
   pub guest-next : (a : Access) (addr : ℕ) → Next h (accesses a addr) (guestOutcome a s addr)
   unfolding guestOutcome afterAccepted
   guest-next a addr =
-      next (accesses a addr) (guestAfter a s addr) (answerOf (guestRefusals a s addr)) (byteGiven a (s .memory) (byteIndex (base s) addr (activeWalk s addr))) r
+      next (accesses a addr) (guestAccepted a s addr) (answerOf (guestRefusals a s addr)) r
       (guest-avoids a addr 13 (omega arith))
       (guest-avoids a addr 24 (omega arith))
       (λ e. guest-keeps a addr (arrived a addr e) .0)
@@ -191,12 +192,12 @@ module _ {h : Told} {s : Store} (r : Running h s) where
   pub guest-guarded : (a : Access) (addr : ℕ) → KeepsTables h s (guestOutcome a s addr .after)
   unfolding guestOutcome
   guest-guarded a addr =
-      settle-keeps (KeepsTables h s) s (guestAfter a s addr) (answerOf (guestRefusals a s addr)) (byteGiven a (s .memory) (byteIndex (base s) addr (activeWalk s addr)))
+      settle-keeps (KeepsTables h s) s (guestAccepted a s addr) (answerOf (guestRefusals a s addr))
       (λ b l n. refl) (λ e. guest-keeps a addr (arrived a addr e) .1)
 
   pub guest-fetched : (addr : ℕ) → guestOutcome fetches s addr .answer ≡ 0 → Fetched h s addr (guestOutcome fetches s addr .byte)
   unfolding guestOutcome
   guest-fetched addr e =
       let (accepted, _, byte) =
-      settle-accepted s (guestAfter fetches s addr) (answerOf (guestRefusals fetches s addr)) (byteGiven fetches (s .memory) (byteIndex (base s) addr (activeWalk s addr))) e in
+      settle-accepted s (guestAccepted fetches s addr) (answerOf (guestRefusals fetches s addr)) e in
       rw byte (guest-fetches addr (arrived fetches addr accepted))

@@ -11,38 +11,41 @@ use lib.ListN.{take}
 use borrow.Author.Tests.{le-ltb, lt-leb}
 use Rattle.words.specs.Bounded.{above, neqb, among, sum, num}
 use Rattle.words.proofs.Bounded.{any-avoids, false-unless, and-true-right, same, among-in, among-within}
-use Rattle.entries.specs.Entries.{Entry, fault, page, l2, entryAt, isFault, rights, first, size, covers}
+use Rattle.signature.specs.Signed.{misfitImage}
+use Rattle.entries.specs.Entries.{Entry, fault, page, l2, entryAt, isFault, rights, placeFirst, coverFirst, placeBlocks, coverBlocks, covers}
 use Rattle.entries.specs.Written.{wordOf, cacheable}
+use Rattle.entries.specs.Rights.{write, execute, allows}
+use Rattle.entries.specs.Rights.{unlawfulRights}
 use Rattle.entries.proofs.RoundTrip.{Encodable, a-fault, a-page, Grantable, none, read, readWrite, readExecute}
 use Rattle.rules.specs.Store.{blockWords, counterLimit, Store, blocks, base, Counter, writable, executable, counter, typeOf, someBlock, fill}
-use Rattle.rules.specs.Signature.{misfitImage, certified}
-use Rattle.rules.specs.Tables.{typeD, typeCode, entries, pages, wordIndex, tableEntry, write, execute, allows, grants, gives, gain}
+use Rattle.rules.specs.Signature.{signedBlock}
+use Rattle.rules.specs.Tables.{typeD, typeCode, tableEntries, pages, wordIndex, tableEntry, grants, gives, gain}
 use Rattle.rules.specs.General.{tableOutside, otherType, holder, executableHolder, Change, added, removed, endValue, recounted, occupied, entered}
-use Rattle.rules.specs.Map.{unlawfulRights, unfitTarget, clashingTarget, unsignedTarget, mapRefusals, mapOutcome}
+use Rattle.rules.specs.Map.{unfitTarget, clashingTarget, unsignedTarget, mapRefusals, mapOutcome}
 use Rattle.rules.specs.Unmap.{unmapRefusals, unmapAfter, unmapOutcome}
 use Rattle.rules.specs.Steps.{Step, maps, unmaps, obey, run, Told, afterAccepted}
 use Rattle.rules.specs.Policies.{WritableByOneEntry, thereAndBack}
 use Rattle.rules.proofs.Refusals.{Passed, done, step}
 use Rattle.rules.proofs.Gains.{gives-fault, gives-within, gain-most}
-use Rattle.rules.proofs.Memory.{length-fill, entryAt-fill, contents-fill, certified-same}
+use Rattle.rules.proofs.Memory.{length-fill, entryAt-fill, contents-fill, signedBlock-same}
 use Rattle.rules.proofs.Consistent.{Sound, counted, counts-limit}
-use Rattle.rules.proofs.State.{typeAt, recorded, entryOf, Inv, Running, safe, type-told}
+use Rattle.rules.proofs.State.{inside, typeAt, recorded, entryOf, Inv, Running, safe, type-told}
 use Rattle.rules.proofs.Tables.{entryOf-table}
-use Rattle.rules.proofs.Walk.{place-within}
+use Rattle.rules.proofs.Walk.{cover-within}
 use Rattle.rules.proofs.Changes.{end, counter-recounted}
-use Rattle.rules.proofs.Passing.{Taken, taken, inside, one-block, no-misfit, right-type}
-use Rattle.rules.proofs.Removals.{none-unaccepted, none-astray}
+use Rattle.rules.proofs.Passing.{Taken, taken, one-block, no-misfit, right-type}
+use Rattle.rules.proofs.Removals.{all-taken, none-unaccepted, none-astray}
 
 -- entry i of the L2 block p is e, and no other entry lets the guest write or execute in the signed data block t, nor execute in block p
 pub record Alone (B : ℕ) (h : Told) (s : Store) (p i t : ℕ) (e : Entry) : Type 0 where
   pub table-low : B ≤ p
   pub table-high : p < B + blocks s
   pub table : h .types p ≡ typeCode l2
-  pub index : i < entries l2
+  pub index : i < tableEntries l2
   pub low : B ≤ t
   pub high : t < B + blocks s
   pub free : h .types t ≡ typeD
-  pub signs : certified (h .golden) B (s .memory) t ≡ true
+  pub signs : signedBlock (h .golden) B (s .memory) t ≡ true
   pub holds : entryAt l2 (s .memory) (blockWords * (p - B) + i) ≡ e
   pub only : recorded s writable (t - B) + recorded s executable (t - B) ≡ num (gives writable e t) + num (gives executable e t)
   pub holder-unexecuted : recorded s executable (p - B) ≡ 0
@@ -76,7 +79,7 @@ module _ {h : Told} {s : Store} (r : Running h s) {p i t : ℕ} {e : Entry} (a :
   -- what is left when y stands where the entry stood, and what x 0 gives has been added to the counters or removed
   module _ (d : Change) (x : ℕ → Entry) (y : Entry) where
     abbrev after : Store
-    after = record { memory = fill (s .memory) (wordIndex s p i) 1 (wordOf cacheable y); ledger = recounted d s 1 x }
+    after = record { memory = fill (s .memory) (wordIndex s p i) 1 (λ k. wordOf cacheable y); ledger = recounted d s 1 x }
 
     left : (c : Counter) (q : ℕ) → base s ≤ q → q < base s + blocks s → recorded after c (q - base s) ≡ endValue d (recorded s c (q - base s)) (num (gives c (x 0) q))
     left c q lo hi =
@@ -91,7 +94,7 @@ module _ {h : Told} {s : Store} (r : Running h s) {p i t : ℕ} {e : Entry} (a :
         → Alone (base s) h after p i t y
     edit-alone written uses unexecuted =
         let f = r .fit .memory-length in
-        let same-blocks = length-fill (s .memory) (wordIndex s p i) 1 (wordOf cacheable y) in
+        let same-blocks = length-fill (s .memory) (wordIndex s p i) (λ k. wordOf cacheable y) 1 in
         let at : base s + (t - base s) ≡ t = omega arith in
         let o = other in
         record {
@@ -102,8 +105,8 @@ module _ {h : Told} {s : Store} (r : Running h s) {p i t : ℕ} {e : Entry} (a :
           low = a .low;
           high = omega arith;
           free = a .free;
-          signs = rw at at (certified-same (h .golden) (base s) (after .memory) (s .memory) (t - base s) (contents-fill (s .memory) (wordIndex s p i) 1 (wordOf cacheable y) (t - base s) (λ k. omega arith))) ∙ a .signs;
-          holds = rw add-zero at (entryAt-fill l2 (s .memory) (wordIndex s p i) 1 cacheable y written (omega arith) 0 (omega arith));
+          signs = rw at at (signedBlock-same (h .golden) (base s) (after .memory) (s .memory) (t - base s) (contents-fill (s .memory) (wordIndex s p i) (λ k. wordOf cacheable y) 1 (t - base s) (λ k. omega arith))) ∙ a .signs;
+          holds = rw add-zero at (entryAt-fill l2 (s .memory) (wordIndex s p i) cacheable (λ k. y) 1 (λ k l. written) (omega arith) 0 (omega arith));
           only = rw (left writable t (a .low) (a .high), left executable t (a .low) (a .high)) uses;
           holder-unexecuted = left executable p (a .table-low) (a .table-high) ∙ unexecuted;
         }
@@ -121,11 +124,11 @@ module _ {h : Told} {s : Store} (r : Running h s) {p i t : ℕ} {e : Entry} (a :
   unexecuted : executableHolder s p i ≡ false
   unexecuted = rw own-holder (le-ltb 0 (counter executable s p) (omega (arith, a .holder-unexecuted)))
 
-  unmap-passes : Passed (take 8 (unmapRefusals pages s p i))
+  unmap-passes : Passed (take 9 (unmapRefusals pages s p i))
   unmap-passes =
-      let in-table : (k : ℕ) → k < 1 → i + k < entries l2 = λ k l. omega arith in
-      step (no-misfit r) (step table-inside (step (same (p % 1) 0 (mod-one p)) (step (lt-leb (entries l2) i (a .index)) (step typed (step unexecuted
-      (step (none-unaccepted r l2 p table-inside typed 1 (λ k. i + k) in-table) (step (none-astray r l2 p table-inside typed 1 (λ k. i + k) in-table) done)))))))
+      let in-table : (k : ℕ) → k < 1 → i + k < tableEntries l2 = λ k l. omega arith in
+      step (no-misfit r) (step table-inside (step (same (p % 1) 0 (mod-one p)) (step (same (i % 1) 0 (mod-one i)) (step (lt-leb (tableEntries l2) i (a .index)) (step typed (step unexecuted
+      (step (all-taken pages s p i (none-unaccepted r l2 p table-inside typed 1 (λ k. i + k) in-table)) (step (none-astray r l2 p table-inside typed 1 (λ k. i + k) in-table) done))))))))
 
   -- the block is no longer counted for write or execute
   unmap-alone : Alone (base s) h (unmapAfter pages s p i) p i t fault
@@ -173,15 +176,15 @@ module _ {h : Told} {s : Store} (r : Running h s) {p i t q : ℕ} (a : Alone (ba
 
   signed-target : unsignedTarget pages (h .golden) s t q ≡ false
   unfolding unsignedTarget
-  signed-target = rw (one-block t (λ b. not (certified (h .golden) (base s) (s .memory) b)) (ap not (a .signs))) (and-false (allows q execute))
+  signed-target = rw (one-block t (λ b. not (signedBlock (h .golden) (base s) (s .memory) b)) (ap not (a .signs))) (and-false (allows q execute))
 
-  map-passes : Passed (take 13 (mapRefusals pages (h .golden) s p i t q))
+  map-passes : Passed (take 14 (mapRefusals pages (h .golden) s p i t q))
   map-passes =
-      step (no-misfit r) (step image (step (table-inside r a) (step (same (p % 1) 0 (mod-one p)) (step (same (t % 1) 0 (mod-one t)) (step (lt-leb (entries l2) i (a .index)) (step (typed r a) (step (unexecuted r a)
-      (step vacant (step (grantable-lawful g .0) (step fit-target (step clear-target (step signed-target done))))))))))))
+      step (no-misfit r) (step image (step (table-inside r a) (step (same (p % 1) 0 (mod-one p)) (step (same (t % 1) 0 (mod-one t)) (step (same (i % 1) 0 (mod-one i)) (step (lt-leb (tableEntries l2) i (a .index)) (step (typed r a) (step (unexecuted r a)
+      (step vacant (step (grantable-lawful g .0) (step fit-target (step clear-target (step signed-target done)))))))))))))
 
-  map-alone : Alone (base s) h (entered s p i 1 (page t q)) p i t (page t q)
-  unfolding endValue num first size
+  map-alone : Alone (base s) h (entered s p i 1 (λ k. page t q)) p i t (page t q)
+  unfolding endValue num coverFirst placeFirst coverBlocks placeBlocks
   map-alone =
       let (w, x) = uncounted in
       let spared : gives executable (page t q) p ≡ false = false-unless (gives executable (page t q) p) (λ e. let (_, lo, hi) = gives-within executable (page t q) p e in other r a (omega arith)) in
@@ -212,18 +215,18 @@ module _ {h : Told} {s : Store} (r : Running h s) {p i t : ℕ} where
   unfolding obey mapOutcome afterAccepted
   map-goes {q} image g alone =
       let a = subst (λ (b : ℕ). Alone b h s p i t fault) (r .told-base) alone in
-      goes r (taken r (maps pages p i t q) _ (entered s p i 1 (page t q)) refl (map-passes r a image g)) refl (map-alone r a image g)
+      goes r (taken r (maps pages p i t q) _ (entered s p i 1 (λ k. page t q)) refl (map-passes r a image g)) refl (map-alone r a image g)
 
 -- A page that is mapped to be read and written
 
 page-gives : (t : ℕ) → (gives writable (page t 3) t ≡ true) × (gives executable (page t 3) t ≡ false)
-unfolding gives grants allows rights covers first size
+unfolding gives grants allows rights covers coverFirst placeFirst coverBlocks placeBlocks
 page-gives t = (rw (among-in t 1 t (omega arith) (omega arith)) refl, refl)
 
 module _ {h : Told} {s : Store} (r : Running h s) {p i t : ℕ} where
   -- the entry is sound and counted, so that its target is data and not executable
   alone-of : WritableByOneEntry h s p i t → Alone (h .B) h s p i t (page t 3)
-  unfolding first size num
+  unfolding coverFirst placeFirst coverBlocks placeBlocks num
   alone-of w = go (subst (λ (b : ℕ). Inv b (blocks s) h s) (sym (r .told-base)) r) where
     go : Inv (h .B) (blocks s) h s → Alone (h .B) h s p i t (page t 3)
     go v =
@@ -233,7 +236,7 @@ module _ {h : Told} {s : Store} (r : Running h s) {p i t : ℕ} where
         let j = blockWords * (p - h .B) + i in
         let is : entryOf (h .B) h (s .memory) j ≡ page t 3 = entryOf-table (h .B) h (s .memory) j p (omega arith) l2 (w .table) ∙ w .entry in
         let sound : Sound (h .B) (blocks s) (typeAt (h .B) h) (page t 3) = rw is at (k .sound j (omega arith)) in
-        let (low, high) = place-within (h .B) (blocks s) (page t 3) (omega arith) (sound .inside) in
+        let (low, high) = cover-within (h .B) (blocks s) (page t 3) (omega arith) (sound .inside) in
         let at : h .B + (t - h .B) ≡ t = omega arith in
         let (writes, executes) = page-gives t in
         let one = safe r .honest writable (t - h .B) (omega arith) ∙ w .alone in

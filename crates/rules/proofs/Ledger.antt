@@ -28,7 +28,7 @@ counter-not-type executable = λ e. omega arith
 counter-not-type linked = λ e. omega arith
 
 -- two words of records that are not the same lie apart
-pub records-apart : (k b j c : ℕ) → InRecord k → InRecord j → (b ≡ c → k ≢ j)
+records-apart : (k b j c : ℕ) → InRecord k → InRecord j → (b ≡ c → k ≢ j)
     → ledgerHeadBytes + ledgerRecordBytes * c + 4 * j < ledgerHeadBytes + ledgerRecordBytes * b + 4 * k + 4 → ledgerHeadBytes + ledgerRecordBytes * c + 4 * j + 4 ≤ ledgerHeadBytes + ledgerRecordBytes * b + 4 * k
 records-apart k b j c ik ij o l =
     ⊎-elim (λ (s : c < b). omega arith)
@@ -62,13 +62,13 @@ recordWord-put-head led a v k b h = word-putWord-other led a v (ledgerHeadBytes 
 
 module _ {A : Type 0} (P : List ℕ → A) (led : List ℕ) where
   -- whatever every store of a type leaves alone is left alone
-  pub retype-keeps : (b m t : ℕ) → ((l : List ℕ) (c : ℕ) → b ≤ c → c < b + m → P (putRecordWord l typeWord c t) ≡ P l) → P (retype led b m t) ≡ P led
+  retype-keeps : (b m t : ℕ) → ((l : List ℕ) (c : ℕ) → b ≤ c → c < b + m → P (putRecordWord l typeWord c t) ≡ P l) → P (retype led b m t) ≡ P led
   unfolding retype
   retype-keeps b zero t h = refl
   retype-keeps b (suc m) t h = h (retype led b m t) (b + m) (omega arith) (omega arith) ∙ retype-keeps b m t (λ l c lo hi. h l c lo (omega arith))
 
   -- and so with the counters
-  pub recount-keeps : (n : ℕ) (f : Counter → ℕ → ℕ) → ((l : List ℕ) (c : Counter) (b v : ℕ) → b < n → P (putRecordWord l (counterWord c) b v) ≡ P l) → P (recount led n f) ≡ P led
+  recount-keeps : (n : ℕ) (f : Counter → ℕ → ℕ) → ((l : List ℕ) (c : Counter) (b v : ℕ) → b < n → P (putRecordWord l (counterWord c) b v) ≡ P l) → P (recount led n f) ≡ P led
   unfolding recount
   recount-keeps zero f h = refl
   recount-keeps (suc n) f h =

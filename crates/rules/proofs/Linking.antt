@@ -4,15 +4,16 @@ use mathlib.Core.Path.{_≡_, refl, sym, _∙_}
 use Prim.Native.Nat.{ℕ, _+_, _*_, _/_, _<_, _≤_}
 use native.Mathlib.Omega.{arith}
 use borrow.Author.Tests.{leb-false}
-use Rattle.entries.specs.Entries.{l1, l2, isUnaccepted, rights, first, size, blockTables}
+use Rattle.entries.specs.Entries.{l1, l2, isUnaccepted, rights, placeFirst, coverFirst, placeBlocks, coverBlocks, blockTables}
+use Rattle.entries.specs.Rights.{allows}
 use Rattle.entries.proofs.RoundTrip.{Encodable, a-link}
 use Rattle.rules.specs.Store.{Store, blocks, base, Counter, writable, executable, linked, typeOf}
-use Rattle.rules.specs.Tables.{typeCode, tableBlocks, allows, grants, gives, astray}
-use Rattle.rules.specs.General.{occupied, entered, tableOutside, beyondTable, otherType, executableHolder, added, someOverrun}
+use Rattle.rules.specs.Tables.{typeCode, tableBlocks, grants, gives, gain, astray}
+use Rattle.rules.specs.General.{occupied, entered, tableOutside, beyondTable, otherType, holder, executableHolder, added, someOverrun}
 use Rattle.rules.specs.Link.{linkTo, linkRefusals, linkOutcome}
 use Rattle.rules.specs.Steps.{links, Told, afterAccepted}
 use Rattle.rules.proofs.Refusals.{Passed, front, now, rest}
-use Rattle.rules.proofs.Gains.{gives-within}
+use Rattle.rules.proofs.Gains.{gives-within, gain-none}
 use Rattle.rules.proofs.Consistent.{Suits, Sound}
 use Rattle.rules.proofs.State.{typeAt, Fit, fits, Running, equal, within, type-told, Next, next-13}
 use Rattle.rules.proofs.Edits.{slot, Harmless, enters}
@@ -56,7 +57,7 @@ link-written {s} {p} {i} {t} {j} can = let (low, high) = within (base s) (blocks
 module _ (p i t j : ℕ) {h : Told} {s : Store} (r : Running h s) (can : Linkable s p i t j) where
   -- a link leads to its target, an L2 block
   link-sound : Sound (base s) (blocks s) (typeAt (base s) h) (linkTo t j)
-  unfolding gives grants allows rights isUnaccepted astray size first
+  unfolding gives grants allows rights isUnaccepted astray coverBlocks placeBlocks coverFirst placeFirst
   link-sound =
       let (low, high) = within (base s) (blocks s) t (tableBlocks l2) (can .target-inside) in
       let is : (blockTables * t + j) / blockTables ≡ t = omega arith in
@@ -70,23 +71,27 @@ module _ (p i t j : ℕ) {h : Told} {s : Store} (r : Running h s) (can : Linkabl
             rw is (sym (type-told r t low (omega arith)) ∙ can .target-type)
 
   -- it gives the guest nothing
-  link-harmless : Harmless h s p i (linkTo t j)
-  unfolding gives grants allows rights
+  link-gives : (c : Counter) (b : ℕ) → grants c (linkTo t j) ≡ false → gain 1 (λ k. linkTo t j) c b ≡ 0
+  unfolding gives
+  link-gives c b none = gain-none 1 (λ k. linkTo t j) c b (λ k l. rw none refl)
+
+  link-harmless : Harmless h s p i 1 (λ k. linkTo t j)
+  unfolding grants allows rights
   link-harmless =
       record {
-        write-alone = λ b l g. absurd (false≢true g);
-        execute-alone = λ b l g. absurd (false≢true g);
-        signs = λ b l g. absurd (false≢true g);
-        spares-holder = refl;
+        write-alone = λ b l g. let z : ⊥ = omega (arith, link-gives writable (base s + b) refl) in absurd z;
+        execute-alone = λ b l g. let z : ⊥ = omega (arith, link-gives executable (base s + b) refl) in absurd z;
+        signs = λ b l g. let z : ⊥ = omega (arith, link-gives executable (base s + b) refl) in absurd z;
+        spares-holder = link-gives executable (holder p i) refl;
       }
 
-  linked-to : (someOverrun added s 1 (λ k. linkTo t j) ≡ false) × Running h (entered s p i 1 (linkTo t j))
+  linked-to : (someOverrun added s 1 (λ k. linkTo t j) ≡ false) × Running h (entered s p i 1 (λ k. linkTo t j))
   linked-to =
-      let sl = slot r l1 p i 1 refl (can .table-inside) (can .index-inside) (can .typed) (can .unexecuted-holder) in
-      enters r l1 p i 1 sl (linkTo t j) link-harmless (link-written can) (can .free) link-sound
+      let sl = slot r l1 p i 1 (omega arith) (can .table-inside) (can .index-inside) (can .typed) (can .unexecuted-holder) in
+      enters r l1 p i 1 sl (λ k. linkTo t j) link-harmless (λ k l. link-written can) (can .free) (λ k l. link-sound)
 
 pub link-next : (p i t j : ℕ) {h : Told} {s : Store} → Running h s → Next h (links p i t j) (linkOutcome s p i t j)
 unfolding linkOutcome afterAccepted
 link-next p i t j {h} {s} r =
-    next-13 (links p i t j) (entered s p i 1 (linkTo t j)) (linkRefusals s p i t j) r (omega arith) (omega arith) (omega arith)
+    next-13 (links p i t j) (entered s p i 1 (λ k. linkTo t j)) (linkRefusals s p i t j) r (omega arith) (omega arith) (omega arith)
     (λ tests. linked-to p i t j r (linkable s p i t j tests))

@@ -12,23 +12,25 @@ use borrow.Author.Tests.{le-ltb}
 use Rattle.words.specs.Bounded.{any, neqb}
 use Rattle.words.proofs.Bounded.{any-avoids, same}
 use Rattle.entries.specs.Entries.{Level, l1}
+use Rattle.entries.specs.Rights.{allows}
 use Rattle.rules.specs.Refusals.{Refusal, _if_, answerOf}
-use Rattle.rules.specs.Store.{blockBytes, leastBlocks, mostBlocks, baseAlignment, physicalBlocks, ledgerHeadBytes, ledgerRecordBytes, Store, blocks, base, active, typeOf, outside, someBlock, misfit, Outcome, settle}
-use Rattle.rules.specs.Tables.{typeCode, tableBlocks, allows}
+use Rattle.rules.specs.Store.{blockBytes, leastBlocks, mostBlocks, baseAlignment, physicalBlocks, ledgerHeadBytes, ledgerRecordBytes, Store, blocks, base, active, typeOf, someBlock, misfit}
+use Rattle.rules.specs.Outcomes.{Outcome, Accepted, leaving, settle, callOutcome}
+use Rattle.rules.specs.Tables.{typeCode, tableBlocks}
 use Rattle.rules.specs.General.{otherType}
 use Rattle.rules.specs.Switch.{switchRefusals, switchAfter, switchOutcome}
-use Rattle.rules.specs.Guest.{ends, walk, Access, needed, walkRefusals, noActiveTable, activeWalk, guestRefusals, guestAfter, guestOutcome}
+use Rattle.rules.specs.Guest.{ends, walk, Access, needed, walkRefusals, noActiveTable, activeWalk, guestRefusals, guestAccepted, guestOutcome}
 use Rattle.rules.specs.Steps.{Step, switches, obey, Told, afterAccepted, afterAnswer}
 use Rattle.rules.specs.Policies.{Switchable, SwitchesToTables}
 use Rattle.rules.proofs.Refusals.{Passed, done, step, passed, accepted, accepted-unless}
-use Rattle.rules.proofs.State.{activeWord, Running, type-told, settle-accepted}
+use Rattle.rules.proofs.State.{activeWord, Running, inside, type-told, settle-accepted}
 use Rattle.rules.proofs.Starting.{switch-runs}
 use Rattle.rules.proofs.Demand3.{step-next}
 
-pub settle-answer : (k : ℕ) (s after : Store) (byte : ℕ) → settle k s after byte .answer ≡ k
+pub settle-answer : (k : ℕ) (s : Store) (new : Accepted) → settle k s new .answer ≡ k
 unfolding settle
-settle-answer zero s after byte = refl
-settle-answer (suc k) s after byte = refl
+settle-answer zero s new = refl
+settle-answer (suc k) s new = refl
 
 -- an accepted call: it leaves this store, and the state goes on
 pub record Taken (h : Told) (s : Store) (call : Step) (after : Store) : Type 0 where
@@ -36,28 +38,23 @@ pub record Taken (h : Told) (s : Store) (call : Step) (after : Store) : Type 0 w
   pub leaves : obey (h .golden) s call .after ≡ after
   pub runs : Running (afterAccepted h call) (obey (h .golden) s call .after)
 
-took : {h : Told} {s : Store} → Running h s → (call : Step) (k : ℕ) (after : Store) → obey (h .golden) s call ≡ settle k s after 0 → obey (h .golden) s call .answer ≡ 0
+took : {h : Told} {s : Store} → Running h s → (call : Step) (k : ℕ) (after : Store) → obey (h .golden) s call ≡ settle k s (leaving after) → obey (h .golden) s call .answer ≡ 0
     → Taken h s call after
 unfolding afterAnswer
 took {h} {s} r call k after is zero-is =
     record {
       accepted = zero-is;
-      leaves = ap (λ (o : Outcome). o .after) is ∙ settle-accepted s after k 0 (sym (ap (λ (o : Outcome). o .answer) is) ∙ zero-is) .1;
+      leaves = ap (λ (o : Outcome). o .after) is ∙ settle-accepted s (leaving after) k (sym (ap (λ (o : Outcome). o .answer) is) ∙ zero-is) .1;
       runs = rw zero-is at (step-next r call .runs);
     }
 
 -- a call passes every test but that of its last refusal, 13, which never arises
 pub taken : {h : Told} {s : Store} → Running h s → (call : Step) {before : List Refusal} (last : Bool) (after : Store)
-    → obey (h .golden) s call ≡ settle (answerOf (before ++ (13 if last ∷ []))) s after 0 → Passed before → Taken h s call after
+    → obey (h .golden) s call ≡ callOutcome (before ++ (13 if last ∷ [])) s after → Passed before → Taken h s call after
 taken {h} {s} r call {before} last after is passes =
     let k = answerOf (before ++ (13 if last ∷ [])) in
-    let answer-is : obey (h .golden) s call .answer ≡ k = ap (λ (o : Outcome). o .answer) is ∙ settle-answer k s after 0 in
+    let answer-is : obey (h .golden) s call .answer ≡ k = ap (λ (o : Outcome). o .answer) is ∙ settle-answer k s (leaving after) in
     took r call k after is (answer-is ∙ accepted-unless 13 last passes (λ z. step-next r call .not-13 (answer-is ∙ z)))
-
--- 2 does not apply
-pub inside : (B n p m : ℕ) → B ≤ p → p + m ≤ B + n → outside B n p m ≡ false
-unfolding outside
-inside B n p m low high = rw (le-ltb p B low, le-ltb (B + n) (p + m) high) refl
 
 pub one-block : (p : ℕ) (q : ℕ → Bool) → q p ≡ false → someBlock p 1 q ≡ false
 unfolding someBlock any
@@ -91,7 +88,7 @@ module _ {h : Told} {s : Store} (r : Running h s) where
     to-table : switchOutcome s p .answer ≡ 0 → Switchable h s p
     to-table e =
         let rs = switchRefusals s p in
-        let (zero-is, _, _) = settle-accepted s (switchAfter s p) (answerOf rs) 0 e in
+        let (zero-is, _, _) = settle-accepted s (leaving (switchAfter s p)) (answerOf rs) e in
         let after = switch-runs r p (passed rs (omega arith) zero-is) in
         rw (after .told-base) (after .root p refl)
 
@@ -99,7 +96,7 @@ module _ {h : Told} {s : Store} (r : Running h s) where
     from-table table =
         let low : base s ≤ p = rw (r .told-base) at (table .low) in
         let high : p + tableBlocks l1 ≤ base s + blocks s = rw (r .told-base) at (table .high) in
-        settle-answer (answerOf (switchRefusals s p)) s (switchAfter s p) 0
+        settle-answer (answerOf (switchRefusals s p)) s (leaving (switchAfter s p))
         ∙ accepted (step no-misfit (step (inside (base s) (blocks s) p (tableBlocks l1) low high) (step (same (p % tableBlocks l1) 0 (table .aligned)) (step (right-type l1 p (typeCode l1) low high (table .typed)) done))))
 
   pub switch-taken : (p : ℕ) → Switchable h s p → Taken h s (switches p) (switchAfter s p)
@@ -115,4 +112,4 @@ module _ {h : Told} {s : Store} (r : Running h s) where
       let is : active s ≡ table = r .active-is ∙ ap activeWord in-use in
       let unbarred : noActiveTable s ≡ false = rw (is, inside (base s) (blocks s) table (tableBlocks l1) (root .low) (root .high), same (table % tableBlocks l1) 0 (root .aligned)) refl in
       let at : activeWalk s addr ≡ ends v p q = rw (is, ← r .told-base) walked in
-      settle-answer (answerOf (guestRefusals a s addr)) s (guestAfter a s addr) _ ∙ rw at (accepted (step no-misfit (step unbarred (step (ap not allowed) done))))
+      settle-answer (answerOf (guestRefusals a s addr)) s (guestAccepted a s addr) ∙ rw at (accepted (step no-misfit (step unbarred (step (ap not allowed) done))))

@@ -5,9 +5,10 @@ use mathlib.Core.Logic.{_≢_}
 use mathlib.Core.Path.{_≡_, refl, subst}
 use Prim.Native.Nat.{ℕ}
 use lib.ListN.{take}
+use Rattle.signature.specs.Signed.{misfitImage}
 use Rattle.rules.specs.Refusals.{Refusal, answerOf}
 use Rattle.rules.specs.Store.{Store}
-use Rattle.rules.specs.Signature.{misfitImage}
+use Rattle.rules.specs.Outcomes.{leaving}
 use Rattle.rules.specs.Free.{freeRefusals, freeAfter, freeOutcome}
 use Rattle.rules.specs.Unmap.{unmapRefusals, unmapAfter, unmapOutcome}
 use Rattle.rules.specs.Guest.{Access, fetches, guestOutcome}
@@ -55,8 +56,8 @@ module _ (golden : List ℕ) {B : ℕ} {s : Store} (r : Running (begun B golden)
             let zero-is : obey golden (m .store) (accesses fetches addr) .answer ≡ 0 = cc (m .answer-is, accepted) in
             let byte-is : byte ≡ obey golden (m .store) (accesses fetches addr) .byte = cc (m .byte-is, given) in
             rw (m .told-is, m .store-is, byte-is) (guest-fetches-code (m .runs) addr zero-is);
-        free-sound = λ v p. meets (frees v p) (λ now. freeRefusals v now p) (λ now. settle-answer _ now (freeAfter v now p) 0) (λ h now r. free-sound r v p);
-        unmap-sound = λ f p j. meets (unmaps f p j) (λ now. unmapRefusals f now p j) (λ now. settle-answer _ now (unmapAfter f now p j) 0) (λ h now r. unmap-sound r f p j);
+        free-sound = λ v p. meets (frees v p) (λ now. freeRefusals v now p) (λ now. settle-answer _ now (leaving (freeAfter v now p))) (λ h now r. free-sound r v p);
+        unmap-sound = λ f p j. meets (unmaps f p j) (λ now. unmapRefusals f now p j) (λ now. settle-answer _ now (leaving (unmapAfter f now p j))) (λ h now r. unmap-sound r f p j);
         in-turn = λ image p j t i w.
             subst (λ (g : List ℕ). misfitImage g ≡ false → run g (storeAt golden s steps i) (thereAndBack p j t) .answers ≡ (0 ∷ 0 ∷ 0 ∷ 0 ∷ []))
             (history-golden (begun B golden) (take i steps) (run golden s steps .answers)) (λ lawful. in-turn (reached golden refl r steps i) lawful w) image;

@@ -5,7 +5,6 @@ use mathlib.Core.Logic.{_≢_}
 use mathlib.Core.Path.{_≡_, refl, sym}
 use Prim.Native.Nat.{ℕ}
 use Rattle.rules.specs.Refusals.{Refusal, _if_, answerOf}
-pub use Rattle.rules.specs.Refusals.{front}
 
 -- every test of the list failed
 pub data Passed : List Refusal → Type 0 where
@@ -46,6 +45,12 @@ unfolding answerOf
 decides (here e) = rw e refl
 decides (past e d) = rw e (decides d)
 decides none = refl
+
+-- all refusals of a list but the last
+abbrev pub front : List Refusal → List Refusal
+front [] = []
+front (r ∷ []) = []
+front (r ∷ s ∷ rs) = r ∷ front (s ∷ rs)
 
 -- the test of the last refusal
 abbrev pub lastTest : List Refusal → Bool

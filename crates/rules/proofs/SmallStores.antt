@@ -9,18 +9,18 @@ use lib.ListN.{length, getD, replicate, length-replicate, getD-replicate, List·
 use Rattle.words.specs.Bounded.{any}
 use Rattle.words.specs.Words.{word, putWord}
 use Rattle.words.proofs.Bounded.{below-or-above}
-use Rattle.entries.proofs.Decoding.{entryAt-putWord-other}
 use Rattle.words.proofs.Words.{length-putWord, word-putWord-same}
 use Rattle.signature.specs.Signed.{signed, listed}
 use Rattle.entries.specs.Entries.{fault, Level, l1, l2, entryAt, l1Entry, l2Entry}
+use Rattle.entries.proofs.Decoding.{entryAt-putWord-other}
 use Rattle.rules.specs.Store.{blockBytes, ledgerHeadBytes, ledgerRecordBytes, Store, recordWord, putRecordWord, retype, typeWord, counterWord, writable, misfit}
-use Rattle.rules.specs.Signature.{certified}
+use Rattle.rules.specs.Signature.{signedBlock}
 use Rattle.rules.specs.Tables.{typeCode}
 
 pub zeros : ℕ → List ℕ
 zeros n = replicate n 0
 
-pub length-zeros : (n : ℕ) → length (zeros n) ≡ n
+length-zeros : (n : ℕ) → length (zeros n) ≡ n
 unfolding zeros
 length-zeros n = length-replicate {A = ℕ} n 0
 
@@ -62,7 +62,7 @@ oneL1 = retype ledger 0 4 (typeCode l1)
 abbrev pub writesTo5 : ℕ → List ℕ
 writesTo5 count = putRecordWord oneL2 (counterWord writable) 5 count
 
-pub word-zeros : (n a : ℕ) → word (zeros n) a ≡ 0
+word-zeros : (n a : ℕ) → word (zeros n) a ≡ 0
 unfolding word zeros
 word-zeros n a = rw (getD-zeros n a, getD-zeros n (a + 1), getD-zeros n (a + 2), getD-zeros n (a + 3)) refl where
   getD-zeros : (n i : ℕ) → getD {A = ℕ} (replicate n 0) i 0 ≡ 0
@@ -81,6 +81,6 @@ unfolding zeros recordWord
 record-zeros k b = word-zeros (ledgerHeadBytes + ledgerRecordBytes * 8) (ledgerHeadBytes + ledgerRecordBytes * b + 4 * k)
 
 -- nothing is signed by an empty golden image
-pub unsigned : (mem : List ℕ) (B p : ℕ) → certified [] B mem p ≡ false
-unfolding certified signed listed any
+pub unsigned : (mem : List ℕ) (B p : ℕ) → signedBlock [] B mem p ≡ false
+unfolding signedBlock signed listed any
 unsigned mem B p = refl

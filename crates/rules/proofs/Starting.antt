@@ -11,14 +11,15 @@ use Rattle.entries.specs.Entries.{fault, l1}
 use Rattle.rules.specs.Store.{blockWords, basePlace, activePlace, noTable, Store, blocks, base, recordWord, typeWord, Counter, executable, counterWord, retype}
 use Rattle.rules.specs.Refusals.{answerOf}
 use Rattle.rules.specs.Tables.{typeD, typeCode, tableBlocks, typedEntry}
+use Rattle.rules.specs.Outcomes.{leaving}
 use Rattle.rules.specs.Begin.{cleared, beginRefusals, beginAfter, beginOutcome}
 use Rattle.rules.specs.Switch.{switchRefusals, switchAfter, switchOutcome}
-use Rattle.rules.specs.Steps.{begins, switches, Told, begun, afterAccepted}
+use Rattle.rules.specs.Steps.{begins, switches, Told, begun, afterAccepted, Root}
 use Rattle.rules.proofs.Refusals.{Passed, now, rest, passed, avoided}
 use Rattle.rules.proofs.Gains.{gives-fault, gain-none}
 use Rattle.rules.proofs.Consistent.{sound-fault, still}
 use Rattle.rules.proofs.Ledger.{recordWord-put-head, length-retype, length-recount, type-retype-in, type-recount, counter-recount}
-use Rattle.rules.proofs.State.{Fit, fits, fit-same, equal, within, types-told, Root, Running, running, Next, next, settle-accepted}
+use Rattle.rules.proofs.State.{Fit, fits, fit-same, equal, within, types-told, Running, running, Next, next, settle-accepted}
 
 module _ (s : Store) (B : ℕ) (golden : List ℕ) where
   abbrev n : ℕ
@@ -48,7 +49,7 @@ module _ (s : Store) (B : ℕ) (golden : List ℕ) where
         record-begun (counterWord c) b
         ∙ counter-recount untyped n n (λ c b. 0) (length-retype (s .ledger) 0 n typeD ∙ fit .ledger-length) (omega arith) c b l (omega arith)
 
-  pub begin-runs : Passed (beginRefusals s B) → Running (begun B golden) (beginAfter s B)
+  begin-runs : Passed (beginRefusals s B) → Running (begun B golden) (beginAfter s B)
   unfolding typedEntry
   begin-runs t =
       let fit = fits s B (now t) in
@@ -73,7 +74,7 @@ module _ (s : Store) (B : ℕ) (golden : List ℕ) where
   unfolding beginOutcome
   begin-accepted accepted =
       let rs = beginRefusals s B in
-      let (zero-is, after-is, _) = settle-accepted s (beginAfter s B) (answerOf rs) 0 accepted in
+      let (zero-is, after-is, _) = settle-accepted s (leaving (beginAfter s B)) (answerOf rs) accepted in
       rw after-is (begin-runs (passed rs (omega arith) zero-is))
 
 module _ {h : Told} {s : Store} (r : Running h s) (p : ℕ) where
@@ -101,12 +102,12 @@ module _ {h : Told} {s : Store} (r : Running h s) (p : ℕ) where
   unfolding switchOutcome
   switch-next =
       let rs = switchRefusals s p in
-      next (switches p) (switchAfter s p) (answerOf rs) 0 r (avoided 13 rs (λ e. omega arith) (omega arith)) (avoided 24 rs (λ e. omega arith) (omega arith))
+      next (switches p) (leaving (switchAfter s p)) (answerOf rs) r (avoided 13 rs (λ e. omega arith) (omega arith)) (avoided 24 rs (λ e. omega arith) (omega arith))
       (λ e. switch-runs (passed rs (omega arith) e))
 
 pub begin-next : {h : Told} {s : Store} → Running h s → (B : ℕ) → Next h (begins B) (beginOutcome s B)
 unfolding beginOutcome afterAccepted
 begin-next {h} {s} r B =
     let rs = beginRefusals s B in
-    next (begins B) (beginAfter s B) (answerOf rs) 0 r (avoided 13 rs (λ e. omega arith) (omega arith)) (avoided 24 rs (λ e. omega arith) (omega arith))
+    next (begins B) (leaving (beginAfter s B)) (answerOf rs) r (avoided 13 rs (λ e. omega arith) (omega arith)) (avoided 24 rs (λ e. omega arith) (omega arith))
     (λ e. begin-runs s B (h .golden) (passed rs (omega arith) e))

@@ -7,19 +7,19 @@ use mathlib.Core.Path.{_≡_, refl, sym, _∙_, ap, subst, subst₂}
 use Prim.Native.Nat.{ℕ, zero, suc, _+_, _-_, _*_, _/_, _%_, _<_, _≤_}
 use native.Mathlib.Omega.{arith}
 use lib.ListN.{length}
-use borrow.Author.Tests.{ltb-false, eqb-true, not-false}
 use lib.Dec.{eqb}
+use borrow.Author.Tests.{le-ltb, ltb-false, eqb-true, not-false}
 use Rattle.words.specs.Bounded.{above, neqb}
 use Rattle.words.proofs.Bounded.{or-false-left, or-false-right, or-cases, any-none, any-hit, any-found}
 use Rattle.entries.specs.Entries.{Entry, Level}
-use Rattle.rules.specs.Store.{blockBytes, blockWords, leastBlocks, mostBlocks, baseAlignment, physicalBlocks, ledgerHeadBytes, ledgerRecordBytes, noTable, Store, blocks, base, active, recordWord, typeWord, Counter, writable, executable, linked, counterWord, someCounter, typeOf, outside, someBlock, misfit, Outcome, settle}
+use Rattle.rules.specs.Store.{blockBytes, blockWords, leastBlocks, mostBlocks, baseAlignment, physicalBlocks, ledgerHeadBytes, ledgerRecordBytes, noTable, Store, blocks, base, active, recordWord, typeWord, Counter, writable, executable, linked, counterWord, someCounter, typeOf, outside, someBlock, misfit}
+use Rattle.rules.specs.Outcomes.{Outcome, Accepted, leaving, settle, callOutcome}
 use Rattle.rules.specs.Refusals.{Refusal, answerOf}
-use Rattle.rules.specs.Signature.{certified}
+use Rattle.rules.specs.Signature.{signedBlock}
 use Rattle.rules.specs.Tables.{tableBlocks, typedEntry}
 use Rattle.rules.specs.General.{tableOutside, otherType}
-use Rattle.rules.specs.Steps.{Step, Told, afterAccepted, afterAnswer, afresh}
+use Rattle.rules.specs.Steps.{Step, Told, afterAccepted, afterAnswer, afresh, Root}
 use Rattle.rules.specs.Demand3.{Safe}
-pub use Rattle.rules.specs.Policies.{Root}
 use Rattle.rules.proofs.Refusals.{Passed, Avoids, front, lastTest, passed, passed-front, avoided, last-avoided}
 use Rattle.rules.proofs.Consistent.{Consistent}
 
@@ -75,8 +75,8 @@ entryOf B h memory j = typedEntry (h .types (B + j / blockWords)) memory j
 abbrev pub typeAt : ℕ → Told → ℕ → ℕ
 typeAt B h b = h .types (B + b)
 
-abbrev pub sealed : ℕ → Told → List ℕ → ℕ → Bool
-sealed B h memory b = certified (h .golden) B memory (B + b)
+abbrev pub signedAt : ℕ → Told → List ℕ → ℕ → Bool
+signedAt B h memory b = signedBlock (h .golden) B memory (B + b)
 
 abbrev pub recorded : Store → Counter → ℕ → ℕ
 recorded s c b = recordWord (s .ledger) (counterWord c) b
@@ -88,7 +88,7 @@ pub record Inv (B n : ℕ) (h : Told) (s : Store) : Type 0 where
   pub active-is : active s ≡ activeWord (h .table)
   pub types-are : (b : ℕ) → b < n → recordWord (s .ledger) typeWord b ≡ typeAt B h b
   pub root : (p : ℕ) → h .table ≡ some p → Root B n (h .types) p
-  pub consistent : Consistent B n (typeAt B h) (entryOf B h (s .memory)) (sealed B h (s .memory)) (recorded s)
+  pub consistent : Consistent B n (typeAt B h) (entryOf B h (s .memory)) (signedAt B h (s .memory)) (recorded s)
 
 abbrev pub Running : Told → Store → Type 0
 Running h s = Inv (base s) (blocks s) h s
@@ -119,6 +119,10 @@ pub within : (B n p m : ℕ) → outside B n p m ≡ false → (B ≤ p) × (p +
 unfolding outside
 within B n p m e =
     (ltb-false p B (or-false-left (above B p) (above (p + m) (B + n)) e), ltb-false (B + n) (p + m) (or-false-right (above B p) (above (p + m) (B + n)) e))
+
+pub inside : (B n p m : ℕ) → B ≤ p → p + m ≤ B + n → outside B n p m ≡ false
+unfolding outside
+inside B n p m low high = rw (le-ltb p B low, le-ltb (B + n) (p + m) high) refl
 
 pub no-block : (p m : ℕ) (q : ℕ → Bool) → someBlock p m q ≡ false → (k : ℕ) → k < m → q (p + k) ≡ false
 unfolding someBlock
@@ -178,26 +182,26 @@ pub record Next (h : Told) (step : Step) (o : Outcome) : Type 0 where
   pub runs : Running (afterAnswer (o .answer) h step) (o .after)
 
 -- an accepted call leaves and tells what it says, a refused one nothing
-pub next : {h : Told} {s : Store} (step : Step) (after : Store) (k byte : ℕ) → Running h s → k ≢ 13 → k ≢ 24 → (k ≡ 0 → Running (afterAccepted h step) after)
-    → Next h step (settle k s after byte)
+pub next : {h : Told} {s : Store} (step : Step) (new : Accepted) (k : ℕ) → Running h s → k ≢ 13 → k ≢ 24 → (k ≡ 0 → Running (afterAccepted h step) (new .store))
+    → Next h step (settle k s new)
 unfolding afterAnswer settle
-next step after zero byte r n13 n24 new = record { not-13 = n13; not-24 = n24; runs = new refl }
-next step after (suc k) byte r n13 n24 new = record { not-13 = n13; not-24 = n24; runs = r }
+next step new zero r n13 n24 runs = record { not-13 = n13; not-24 = n24; runs = runs refl }
+next step new (suc k) r n13 n24 runs = record { not-13 = n13; not-24 = n24; runs = r }
 
 -- the same for a call whose last refusal is 13, which does not arise where the others do not
 pub next-13 : {h : Told} {s : Store} (step : Step) (after : Store) (rs : List Refusal) → Running h s → Avoids 0 rs → Avoids 13 (front rs) → Avoids 24 rs
-    → (Passed (front rs) → (lastTest rs ≡ false) × Running (afterAccepted h step) after) → Next h step (settle (answerOf rs) s after 0)
+    → (Passed (front rs) → (lastTest rs ≡ false) × Running (afterAccepted h step) after) → Next h step (callOutcome rs s after)
 next-13 step after rs r n0 n13 n24 new =
-    next step after (answerOf rs) 0 r (last-avoided 13 rs (λ e. omega arith) n13 (λ t. new t .0)) (avoided 24 rs (λ e. omega arith) n24)
+    next step (leaving after) (answerOf rs) r (last-avoided 13 rs (λ e. omega arith) n13 (λ t. new t .0)) (avoided 24 rs (λ e. omega arith) n24)
     (λ e. new (passed-front rs (passed rs n0 e)) .1)
 
 -- an accepted call leaves the new store and gives its byte
-pub settle-keeps : (P : Store → Type 0) (s after : Store) (k byte : ℕ) → P s → (k ≡ 0 → P after) → P (settle k s after byte .after)
+pub settle-keeps : (P : Store → Type 0) (s : Store) (new : Accepted) (k : ℕ) → P s → (k ≡ 0 → P (new .store)) → P (settle k s new .after)
 unfolding settle
-settle-keeps P s after zero byte old new = new refl
-settle-keeps P s after (suc k) byte old new = old
+settle-keeps P s new zero old kept = kept refl
+settle-keeps P s new (suc k) old kept = old
 
-pub settle-accepted : (s after : Store) (k byte : ℕ) → settle k s after byte .answer ≡ 0 → (k ≡ 0) × (settle k s after byte .after ≡ after) × (settle k s after byte .byte ≡ byte)
+pub settle-accepted : (s : Store) (new : Accepted) (k : ℕ) → settle k s new .answer ≡ 0 → (k ≡ 0) × (settle k s new .after ≡ new .store) × (settle k s new .byte ≡ new .byte)
 unfolding settle
-settle-accepted s after zero byte e = (refl, refl, refl)
-settle-accepted s after (suc k) byte e = let z : ⊥ = omega arith in absurd z
+settle-accepted s new zero e = (refl, refl, refl)
+settle-accepted s new (suc k) e = let z : ⊥ = omega arith in absurd z

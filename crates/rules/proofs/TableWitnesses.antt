@@ -7,19 +7,20 @@ use Prim.Native.Nat.{ℕ, _+_, _-_, _*_, _^_, _<_, _≤_}
 use native.Mathlib.Nat.{zero-add}
 use native.Mathlib.Omega.{arith}
 use lib.ListN.{length, drop}
+use borrow.Author.Tests.{lt-ltb}
 use Rattle.words.specs.Bounded.{above, neqb, any, num}
 use Rattle.words.specs.Words.{word, putWord}
 use Rattle.words.proofs.Bounded.{below-or-above, any-none, any-hit, any-avoids}
-use Rattle.entries.specs.Entries.{Entry, fault, page, l1, l2, entryAt, l2Entry, isPageForm, isUnaccepted, isLink, rights, first, size, covers}
+use Rattle.signature.specs.Signed.{misfitImage}
+use Rattle.entries.specs.Entries.{Entry, fault, page, l1, l2, entryAt, l2Entry, isPageForm, isUnaccepted, isLink, rights, placeFirst, coverFirst, placeBlocks, coverBlocks, covers}
 use Rattle.entries.specs.Rights.{mayRead, mayWrite, mayExecute, rightsOf}
+use Rattle.entries.specs.Rights.{write, allows}
 use Rattle.rules.specs.Refusals.{answerOf}
 use Rattle.rules.specs.Store.{ledgerHeadBytes, ledgerRecordBytes, counterLimit, basePlace, blocks, base, recordWord, putRecordWord, retype, typeWord, Counter, typeOf, counter, counterWord, writable, executable, linked, someCounter, outside, someBlock}
-use Rattle.rules.specs.Signature.{misfitImage}
-use Rattle.rules.specs.Tables.{write, typeD, entries, tableEntry, typeCode, allows, grants, gives, gain, astray}
+use Rattle.rules.specs.Tables.{typeD, tableEntries, tableEntry, typeCode, grants, gives, gain, astray}
 use Rattle.rules.specs.General.{endValue, endsBelow, overruns, someOverrun}
 use Rattle.rules.specs.Create.{someCount, unfitLink, unfitWrite, misplaced, clash, clashes, unsigned as unsignedBy, createRefusals}
 use Rattle.rules.specs.Free.{inUse, freeRefusals}
-use borrow.Author.Tests.{lt-ltb}
 use Rattle.rules.proofs.Refusals.{Decides, here, past, decides}
 use Rattle.rules.proofs.Ledger.{recordWord-put-other}
 use Rattle.rules.proofs.Gains.{gives-fault, gain-hit, gain-none, gain-most}
@@ -34,21 +35,21 @@ module _ (w : ℕ) (led : List ℕ) (based : word led basePlace ≡ 0) where
   entry-at i = rw based (ap (entryAt l2 (memory w)) (zero-add i))
 
   -- no entry has q, or one has
-  no-entry : (q : Entry → Bool) → q (entryAt l2 (memory w) 0) ≡ false → q fault ≡ false → any (entries l2) (λ i. q (entry i)) ≡ false
-  no-entry q e f = any-avoids (λ i. q (entry i)) (entries l2) (λ i l. ap q (entry-at i) ∙ go i (below-or-above 0 i)) where
+  no-entry : (q : Entry → Bool) → q (entryAt l2 (memory w) 0) ≡ false → q fault ≡ false → any (tableEntries l2) (λ i. q (entry i)) ≡ false
+  no-entry q e f = any-avoids (λ i. q (entry i)) (tableEntries l2) (λ i l. ap q (entry-at i) ∙ go i (below-or-above 0 i)) where
     go : (i : ℕ) → (0 < i) ⊎ (i ≤ 0) → q (entryAt l2 (memory w) i) ≡ false
     go i (inl h) = ap q (rest-entry l2 w i h) ∙ f
     go i (inr h) = let z : i ≡ 0 = omega arith in rw z e
 
-  some-entry : (q : Entry → Bool) → q (entryAt l2 (memory w) 0) ≡ true → any (entries l2) (λ i. q (entry i)) ≡ true
-  some-entry q e = any-hit (λ i. q (entry i)) (entries l2) 0 (omega arith) (ap q (entry-at 0) ∙ e)
+  some-entry : (q : Entry → Bool) → q (entryAt l2 (memory w) 0) ≡ true → any (tableEntries l2) (λ i. q (entry i)) ≡ true
+  some-entry q e = any-hit (λ i. q (entry i)) (tableEntries l2) 0 (omega arith) (ap q (entry-at 0) ∙ e)
 
   -- what they give a block is what the first gives
-  gives-some : (c : Counter) (b : ℕ) → gives c (entryAt l2 (memory w) 0) b ≡ true → 0 < gain (entries l2) entry c b
-  gives-some c b e = gain-hit (entries l2) entry c b 0 (omega arith) (ap (λ (x : Entry). gives c x b) (entry-at 0) ∙ e)
+  gives-some : (c : Counter) (b : ℕ) → gives c (entryAt l2 (memory w) 0) b ≡ true → 0 < gain (tableEntries l2) entry c b
+  gives-some c b e = gain-hit (tableEntries l2) entry c b 0 (omega arith) (ap (λ (x : Entry). gives c x b) (entry-at 0) ∙ e)
 
-  gives-none : (c : Counter) (b : ℕ) → gives c (entryAt l2 (memory w) 0) b ≡ false → gain (entries l2) entry c b ≡ 0
-  gives-none c b e = gain-none (entries l2) entry c b (λ i l. any-none (λ i. gives c (entry i) b) (entries l2) (no-entry (λ x. gives c x b) e (gives-fault c b)) i l)
+  gives-none : (c : Counter) (b : ℕ) → gives c (entryAt l2 (memory w) 0) b ≡ false → gain (tableEntries l2) entry c b ≡ 0
+  gives-none c b e = gain-none (tableEntries l2) entry c b (λ i l. any-none (λ i. gives c (entry i) b) (tableEntries l2) (no-entry (λ x. gives c x b) e (gives-fault c b)) i l)
 
 one-block : (p : ℕ) (q : ℕ → Bool) → someBlock p 1 q ≡ q (p + 0)
 unfolding someBlock any
@@ -110,7 +111,7 @@ unfolding word recordWord l2Entry isPageForm isUnaccepted
 create-8 = create-from-8 1 ledger refl refl refl (refl, refl, refl) (here (some-entry 1 ledger refl isUnaccepted (ap isUnaccepted (first-entry 1 (omega arith) .1))))
 
 create-10 : answerOf (createRefusals l2 [] (smallStore 0x6403F ledger) 0) ≡ 10
-unfolding word recordWord l2Entry isPageForm isUnaccepted misplaced unfitLink unfitWrite astray outside first size
+unfolding word recordWord l2Entry isPageForm isUnaccepted misplaced unfitLink unfitWrite astray outside coverFirst placeFirst coverBlocks placeBlocks
 create-10 =
     let w : ℕ = 0x6403F in
     let e = first-entry w (omega arith) .1 in
@@ -121,7 +122,7 @@ create-10 =
 -- up to 10 nothing is held against a page in block 5
 create-from-11 : {k : ℕ} (w r : ℕ) → w < 2 ^ 32 → l2Entry w ≡ page 5 r → (led : List ℕ) → length led ≡ ledgerHeadBytes + ledgerRecordBytes * 8 → word led basePlace ≡ 0 → recordWord led typeWord 0 ≡ 0
     → recordWord led typeWord 5 ≡ 0 → Uncounted led → Decides (drop 8 (createRefusals l2 [] (smallStore w led) 0)) k → answerOf (createRefusals l2 [] (smallStore w led) 0) ≡ k
-unfolding isUnaccepted misplaced unfitLink unfitWrite astray outside first size isLink grants allows rights
+unfolding isUnaccepted misplaced unfitLink unfitWrite astray outside coverFirst placeFirst coverBlocks placeBlocks isLink grants allows rights
 create-from-11 w r h is led l based type free c d =
     let e = first-entry w h .1 ∙ is in
     create-from-8 w led l based type c
@@ -134,17 +135,17 @@ entries5 w led = tableEntry l2 (smallStore w led) 0
 
 -- block 5 is executable already
 create-11 : answerOf (createRefusals l2 [] (smallStore 0x503F (putRecordWord ledger (counterWord executable) 5 1)) 0) ≡ 11
-unfolding word putWord recordWord putRecordWord l2Entry isPageForm rightsOf mayRead mayWrite mayExecute num clash gives grants allows rights covers first size
+unfolding word putWord recordWord putRecordWord l2Entry isPageForm rightsOf mayRead mayWrite mayExecute num clash gives grants allows rights covers coverFirst placeFirst coverBlocks placeBlocks
 create-11 =
     let w : ℕ = 0x503F in
     let led = putRecordWord ledger (counterWord executable) 5 1 in
     let e = first-entry w (omega arith) .1 in
     let more = gives-some w led refl writable 5 (ap (λ (x : Entry). gives writable x 5) e) in
-    let W = gain (entries l2) (entries5 w led) writable 5 in
-    let X = gain (entries l2) (entries5 w led) executable 5 in
+    let W = gain (tableEntries l2) (entries5 w led) writable 5 in
+    let X = gain (tableEntries l2) (entries5 w led) executable 5 in
     let is : clash 0 1 W X ≡ true = rw (lt-ltb 0 W more, lt-ltb 0 (0 + W) (omega arith), lt-ltb 0 (1 + X) (omega arith)) refl in
     create-from-11 w 3 (omega arith) refl led refl refl refl refl (refl, refl, refl)
-    (here (rw (length-memory w) (fifth (clashes (smallStore w led) (entries l2) (entries5 w led)) is)))
+    (here (rw (length-memory w) (fifth (clashes (smallStore w led) (tableEntries l2) (entries5 w led)) is)))
 
 -- no block clashes where nothing is writable, or nothing executable, afterwards
 no-clash : (w x moreW moreX : ℕ) → (w + moreW ≡ 0) ⊎ (x + moreX ≡ 0) → clash w x moreW moreX ≡ false
@@ -153,32 +154,32 @@ no-clash w x moreW moreX (inl e) = rw (e, and-false (above moreW 0 || above more
 no-clash w x moreW moreX (inr e) = rw e (and-false ((above moreW 0 || above moreX 0) && above (w + moreW) 0))
 
 create-12 : answerOf (createRefusals l2 [] (smallStore 0x502E ledger) 0) ≡ 12
-unfolding word recordWord l2Entry isPageForm rightsOf mayRead mayWrite mayExecute num gives grants allows rights covers first size
+unfolding word recordWord l2Entry isPageForm rightsOf mayRead mayWrite mayExecute num gives grants allows rights covers coverFirst placeFirst coverBlocks placeBlocks
 create-12 =
     let w : ℕ = 0x502E in
     let e = first-entry w (omega arith) .1 in
     let more = gives-some w ledger refl executable 5 (ap (λ (x : Entry). gives executable x 5) e) in
-    let none : (b : ℕ) → gain (entries l2) (entries5 w ledger) writable b ≡ 0 = λ b. gives-none w ledger refl writable b (ap (λ (x : Entry). gives writable x b) e) in
-    let X = gain (entries l2) (entries5 w ledger) executable 5 in
+    let none : (b : ℕ) → gain (tableEntries l2) (entries5 w ledger) writable b ≡ 0 = λ b. gives-none w ledger refl writable b (ap (λ (x : Entry). gives writable x b) e) in
+    let X = gain (tableEntries l2) (entries5 w ledger) executable 5 in
     create-from-11 w 5 (omega arith) refl ledger refl refl refl refl (refl, refl, refl)
-    (past (rw (length-memory w) (no-fifth (clashes (smallStore w ledger) (entries l2) (entries5 w ledger)) (λ b. no-clash _ _ _ _ (inl (omega (arith, none b, record-zeros 1 (b - 0)))))))
-    (here (rw (length-memory w) (fifth (unsignedBy [] (smallStore w ledger) (entries l2) (entries5 w ledger)) (rw (lt-ltb 0 X more, unsigned (memory w) 0 5) refl)))))
+    (past (rw (length-memory w) (no-fifth (clashes (smallStore w ledger) (tableEntries l2) (entries5 w ledger)) (λ b. no-clash _ _ _ _ (inl (omega (arith, none b, record-zeros 1 (b - 0)))))))
+    (here (rw (length-memory w) (fifth (unsignedBy [] (smallStore w ledger) (tableEntries l2) (entries5 w ledger)) (rw (lt-ltb 0 X more, unsigned (memory w) 0 5) refl)))))
 
 -- block 5's w is at the limit already
 create-13 : answerOf (createRefusals l2 [] (smallStore 0x503F (putRecordWord ledger (counterWord writable) 5 counterLimit)) 0) ≡ 13
-unfolding word putWord recordWord putRecordWord l2Entry isPageForm rightsOf mayRead mayWrite mayExecute num gives grants allows rights covers first size someOverrun someCounter overruns endsBelow endValue
+unfolding word putWord recordWord putRecordWord l2Entry isPageForm rightsOf mayRead mayWrite mayExecute num gives grants allows rights covers coverFirst placeFirst coverBlocks placeBlocks someOverrun someCounter overruns endsBelow endValue
 create-13 =
     let w : ℕ = 0x503F in
     let led = putRecordWord ledger (counterWord writable) 5 counterLimit in
     let e = first-entry w (omega arith) .1 in
     let more = gives-some w led refl writable 5 (ap (λ (x : Entry). gives writable x 5) e) in
-    let none : (b : ℕ) → gain (entries l2) (entries5 w led) executable b ≡ 0 = λ b. gives-none w led refl executable b (ap (λ (x : Entry). gives executable x b) e) in
+    let none : (b : ℕ) → gain (tableEntries l2) (entries5 w led) executable b ≡ 0 = λ b. gives-none w led refl executable b (ap (λ (x : Entry). gives executable x b) e) in
     let unexecuted : (b : ℕ) → recordWord led (counterWord executable) b ≡ 0 =
     λ b. recordWord-put-other ledger (counterWord writable) 5 counterLimit (counterWord executable) b (omega arith) (omega arith) (λ _ z. omega arith) ∙ record-zeros 2 b in
-    let W = gain (entries l2) (entries5 w led) writable 5 in
+    let W = gain (tableEntries l2) (entries5 w led) writable 5 in
     create-from-11 w 3 (omega arith) refl led refl refl refl refl (refl, refl, refl)
-    (past (rw (length-memory w) (no-fifth (clashes (smallStore w led) (entries l2) (entries5 w led)) (λ b. no-clash _ _ _ _ (inr (omega (arith, none b, unexecuted (b - 0)))))))
-    (past (rw (length-memory w) (no-fifth (unsignedBy [] (smallStore w led) (entries l2) (entries5 w led)) (λ b. rw (none b) refl)))
+    (past (rw (length-memory w) (no-fifth (clashes (smallStore w led) (tableEntries l2) (entries5 w led)) (λ b. no-clash _ _ _ _ (inr (omega (arith, none b, unexecuted (b - 0)))))))
+    (past (rw (length-memory w) (no-fifth (unsignedBy [] (smallStore w led) (tableEntries l2) (entries5 w led)) (λ b. rw (none b) refl)))
     (here (rw (length-memory w) (fifth _ (rw (lt-ltb 0 W more, lt-ltb counterLimit (counterLimit + W) (omega arith)) refl))))))
 
 -- Free of block 0
@@ -220,7 +221,7 @@ unfolding word recordWord putRecordWord putWord inUse l2Entry isPageForm isUnacc
 free-8 = free-from-6 1 oneL2 refl refl refl (past refl (here (some-entry 1 oneL2 refl isUnaccepted (ap isUnaccepted (first-entry 1 (omega arith) .1)))))
 
 free-10 : answerOf (freeRefusals l2 (smallStore 0x6403F oneL2) 0) ≡ 10
-unfolding word recordWord putRecordWord putWord inUse l2Entry isPageForm isUnaccepted astray outside first size
+unfolding word recordWord putRecordWord putWord inUse l2Entry isPageForm isUnaccepted astray outside coverFirst placeFirst coverBlocks placeBlocks
 free-10 =
     let w : ℕ = 0x6403F in
     let e = first-entry w (omega arith) .1 in
@@ -232,7 +233,7 @@ free-10 =
 -- up to 10 nothing is held against a page in block 5
 free-from-13 : {k : ℕ} (w r : ℕ) → w < 2 ^ 32 → l2Entry w ≡ page 5 r → (led : List ℕ) → length led ≡ ledgerHeadBytes + ledgerRecordBytes * 8 → word led basePlace ≡ 0 → recordWord led typeWord 0 ≡ typeCode l2
     → recordWord led (counterWord linked) 0 ≡ 0 → Decides (drop 7 (freeRefusals l2 (smallStore w led) 0)) k → answerOf (freeRefusals l2 (smallStore w led) 0) ≡ k
-unfolding inUse isUnaccepted astray outside first size
+unfolding inUse isUnaccepted astray outside coverFirst placeFirst coverBlocks placeBlocks
 free-from-13 w r h is led l based type free d =
     let e = first-entry w h .1 ∙ is in
     free-from-6 w led l based type
@@ -242,20 +243,20 @@ free-from-13 w r h is led l based type free d =
 
 -- a counter of 0 that falls, and one that stays above the limit
 free-13-below : answerOf (freeRefusals l2 (smallStore 0x503F oneL2) 0) ≡ 13
-unfolding word recordWord putRecordWord putWord l2Entry isPageForm rightsOf mayRead mayWrite mayExecute num gives grants allows rights covers first size someOverrun someCounter overruns endsBelow endValue
+unfolding word recordWord putRecordWord putWord l2Entry isPageForm rightsOf mayRead mayWrite mayExecute num gives grants allows rights covers coverFirst placeFirst coverBlocks placeBlocks someOverrun someCounter overruns endsBelow endValue
 free-13-below =
     let w : ℕ = 0x503F in
     let more = gives-some w oneL2 refl writable 5 (ap (λ (x : Entry). gives writable x 5) (first-entry w (omega arith) .1)) in
-    let W = gain (entries l2) (entries5 w oneL2) writable 5 in
+    let W = gain (tableEntries l2) (entries5 w oneL2) writable 5 in
     free-from-13 w 3 (omega arith) refl oneL2 refl refl refl refl (here (rw (length-memory w) (fifth _ (rw (lt-ltb 0 W more) refl))))
 
 free-13-above : answerOf (freeRefusals l2 (smallStore 0x503F (writesTo5 (2 ^ 31))) 0) ≡ 13
-unfolding word recordWord putRecordWord putWord l2Entry isPageForm rightsOf mayRead mayWrite mayExecute num gives grants allows rights covers first size someOverrun someCounter overruns endsBelow endValue
+unfolding word recordWord putRecordWord putWord l2Entry isPageForm rightsOf mayRead mayWrite mayExecute num gives grants allows rights covers coverFirst placeFirst coverBlocks placeBlocks someOverrun someCounter overruns endsBelow endValue
 free-13-above =
     let w : ℕ = 0x503F in
     let led = writesTo5 (2 ^ 31) in
     let more = gives-some w led refl writable 5 (ap (λ (x : Entry). gives writable x 5) (first-entry w (omega arith) .1)) in
-    let W = gain (entries l2) (entries5 w led) writable 5 in
-    let few = gain-most (entries l2) (entries5 w led) writable 5 in
+    let W = gain (tableEntries l2) (entries5 w led) writable 5 in
+    let few = gain-most (tableEntries l2) (entries5 w led) writable 5 in
     free-from-13 w 3 (omega arith) refl led refl refl refl refl
     (here (rw (length-memory w) (fifth _ (rw (lt-ltb 0 W more, lt-ltb counterLimit (2 ^ 31 - W) (omega arith), or-true) refl))))

@@ -10,12 +10,12 @@ use Rattle.rules.specs.Tables.{typeD, typeCode, typedEntry}
 use Rattle.rules.specs.Steps.{Told}
 use Rattle.rules.proofs.State.{entryOf}
 
-pub typedEntry-table : (v : Level) (mem : List ℕ) (j : ℕ) → typedEntry (typeCode v) mem j ≡ entryAt v mem j
+typedEntry-table : (v : Level) (mem : List ℕ) (j : ℕ) → typedEntry (typeCode v) mem j ≡ entryAt v mem j
 unfolding typedEntry
 typedEntry-table l1 mem j = refl
 typedEntry-table l2 mem j = refl
 
-pub typedEntry-data : (mem : List ℕ) (j : ℕ) → typedEntry typeD mem j ≡ fault
+typedEntry-data : (mem : List ℕ) (j : ℕ) → typedEntry typeD mem j ≡ fault
 unfolding typedEntry
 typedEntry-data mem j = refl
 

@@ -3,29 +3,25 @@
 use mathlib.Core.Logic.{_≢_, ⊎-elim}
 use mathlib.Core.Option.{some}
 use mathlib.Core.Path.{_≡_, refl, sym, _∙_, ap}
+use mathlib.Core.List.{List}
 use Prim.Native.Nat.{ℕ, _+_, _-_, _*_, _/_, _^_, _<_, _≤_}
 use native.Mathlib.Omega.{arith}
 use Rattle.words.proofs.Bounded.{window-or-outside, below-or-above}
 use Rattle.entries.specs.Entries.{Entry, Level, l1, l2, fault}
 use Rattle.rules.specs.Store.{blockWords, Store, blocks, base, recordWord, Counter, retype, typeWord, basePlace, activePlace}
-use Rattle.rules.specs.Tables.{typeD, typeCode, tableBlocks, entries, tableEntry, typedEntry}
-use Rattle.rules.specs.General.{Change, added, removed, recounted}
-use Rattle.rules.specs.Steps.{Told, typed}
-use Rattle.rules.proofs.Consistent.{Suits, Turned, windowBefore, windowAfter}
+use Rattle.rules.specs.Tables.{typeD, typeCode, tableBlocks, tableEntries, tableEntry, typedEntry}
+use Rattle.rules.specs.General.{Change, added, removed, recounted, typeAfter, retyped}
+use Rattle.rules.specs.Steps.{Told, typed, Root}
+use Rattle.rules.proofs.Consistent.{Suits, Replaces, windowBefore, windowAfter}
 use Rattle.rules.proofs.Ledger.{length-retype, head-retype, counter-retype, type-retype-in, type-retype-out, typed-in, typed-out}
-use Rattle.rules.proofs.State.{typeAt, Root, entryOf, Running, within}
+use Rattle.rules.proofs.State.{typeAt, entryOf, Running, within}
 use Rattle.rules.proofs.Tables.{word-block, entryOf-table, entryOf-data}
 use Rattle.rules.proofs.Changes.{Leaves, length-recounted, head-recounted, type-recounted, counter-recounted}
-use mathlib.Core.List.{List}
 
--- the types before and after create (its entries are added) and free (they are removed)
+-- the type of a table's blocks before create (its entries are added) and free (they are removed)
 abbrev pub typeBefore : Change → Level → ℕ
 typeBefore added v = typeD
 typeBefore removed v = typeCode v
-
-abbrev pub typeAfter : Change → Level → ℕ
-typeAfter added v = typeCode v
-typeAfter removed v = typeD
 
 small-type : (d : Change) (v : Level) → typeAfter d v < 2 ^ 32
 small-type added l1 = omega arith
@@ -34,10 +30,6 @@ small-type removed v = omega arith
 
 abbrev pub retold : Change → Level → ℕ → Told → Told
 retold d v p h = record { B = h .B; types = typed (h .types) p (tableBlocks v) (typeAfter d v); table = h .table; golden = h .golden }
-
-abbrev pub retyped : Change → Level → Store → ℕ → Store
-retyped d v s p =
-    record { memory = s .memory; ledger = retype (recounted d s (entries v) (tableEntry v s p)) (p - base s) (tableBlocks v) (typeAfter d v) }
 
 module _ (d : Change) (v : Level) (p : ℕ) {h : Told} {s : Store} (r : Running h s) (low : base s ≤ p) (high : p + tableBlocks v ≤ base s + blocks s) where
   -- the table's entries, the type that its blocks take, and the first of them
@@ -51,30 +43,30 @@ module _ (d : Change) (v : Level) (p : ℕ) {h : Told} {s : Store} (r : Running 
   b₀ = p - base s
 
   abbrev led : List ℕ
-  led = recounted d s (entries v) e
+  led = recounted d s (tableEntries v) e
 
   type-retyped : (b : ℕ) → b < blocks s → recordWord (retype led b₀ (tableBlocks v) t) typeWord b ≡ typeAt (base s) (retold d v p h) b
   type-retyped b l = ⊎-elim inside outside (window-or-outside b b₀ (tableBlocks v)) where
     inside : (b₀ ≤ b) × (b < b₀ + tableBlocks v) → recordWord (retype led b₀ (tableBlocks v) t) typeWord b ≡ typeAt (base s) (retold d v p h) b
     inside (lo, hi) =
-        type-retype-in led b₀ (tableBlocks v) t (blocks s) b (length-recounted d s (entries v) e ∙ r .fit .ledger-length) (omega arith) (small-type d v) lo hi
+        type-retype-in led b₀ (tableBlocks v) t (blocks s) b (length-recounted d s (tableEntries v) e ∙ r .fit .ledger-length) (omega arith) (small-type d v) lo hi
         ∙ sym (typed-in (h .types) p (tableBlocks v) t (base s + b) (omega arith) (omega arith))
 
     outside : (b₀ ≤ b → b₀ + tableBlocks v ≤ b) → recordWord (retype led b₀ (tableBlocks v) t) typeWord b ≡ typeAt (base s) (retold d v p h) b
     outside o =
-        type-retype-out led b₀ (tableBlocks v) t b o ∙ type-recounted d s (entries v) e b ∙ r .types-are b l
+        type-retype-out led b₀ (tableBlocks v) t b o ∙ type-recounted d s (tableEntries v) e b ∙ r .types-are b l
         ∙ sym (typed-out (h .types) p (tableBlocks v) t (base s + b) (λ k. omega (arith, o (omega arith))))
 
-  pub typing-leaves : ((q : ℕ) → h .table ≡ some q → Root (base s) (blocks s) (retold d v p h .types) q) → Leaves d (entries v) e s (retyped d v s p) (retold d v p h)
+  pub typing-leaves : ((q : ℕ) → h .table ≡ some q → Root (base s) (blocks s) (retold d v p h .types) q) → Leaves d (tableEntries v) e s (retyped d v s p) (retold d v p h)
   typing-leaves root =
       record {
         told-base = r .told-base;
         memory-length = refl;
-        ledger-length = length-retype led b₀ (tableBlocks v) t ∙ length-recounted d s (entries v) e;
-        base-is = head-retype led b₀ (tableBlocks v) t basePlace (omega arith) ∙ head-recounted d s (entries v) e basePlace (omega arith);
-        active-is = head-retype led b₀ (tableBlocks v) t activePlace (omega arith) ∙ head-recounted d s (entries v) e activePlace (omega arith) ∙ r .active-is;
+        ledger-length = length-retype led b₀ (tableBlocks v) t ∙ length-recounted d s (tableEntries v) e;
+        base-is = head-retype led b₀ (tableBlocks v) t basePlace (omega arith) ∙ head-recounted d s (tableEntries v) e basePlace (omega arith);
+        active-is = head-retype led b₀ (tableBlocks v) t activePlace (omega arith) ∙ head-recounted d s (tableEntries v) e activePlace (omega arith) ∙ r .active-is;
         types-are = type-retyped;
-        counters-are = λ c b l small. counter-retype led b₀ (tableBlocks v) t c b ∙ counter-recounted d s (entries v) e (r .fit .ledger-length) c b l small;
+        counters-are = λ c b l small. counter-retype led b₀ (tableBlocks v) t c b ∙ counter-recounted d s (tableEntries v) e (r .fit .ledger-length) c b l small;
         root = root;
       }
 
@@ -86,9 +78,9 @@ module _ (d : Change) (v : Level) (p : ℕ) {h : Told} {s : Store} (r : Running 
     as-table : k .types (p + i / blockWords) ≡ typeCode v → entryOf (base s) k (s .memory) (blockWords * b₀ + i) ≡ e i
     as-table = entryOf-table (base s) k (s .memory) (blockWords * b₀ + i) (p + i / blockWords) (word-block (base s) p i low) v
 
-  pub typing-turned : ((k : ℕ) → k < tableBlocks v → h .types (p + k) ≡ typeBefore d v)
-      → Turned d (blockWords * blocks s) (blockWords * b₀) (entries v) e (entryOf (base s) h (s .memory)) (entryOf (base s) (retold d v p h) (s .memory))
-  typing-turned was =
+  pub typing-replaces : ((k : ℕ) → k < tableBlocks v → h .types (p + k) ≡ typeBefore d v)
+      → Replaces d (blockWords * blocks s) (blockWords * b₀) (tableEntries v) e (entryOf (base s) h (s .memory)) (entryOf (base s) (retold d v p h) (s .memory))
+  typing-replaces was =
       record {
         within = omega arith;
         before = λ i l. before d i (was (i / blockWords) (omega arith));

@@ -9,14 +9,15 @@ use native.Mathlib.Omega.{arith}
 use borrow.Author.Tests.{lt-ltb}
 use Rattle.words.specs.Words.{bits}
 use Rattle.words.proofs.Bounded.{among-in}
-use Rattle.entries.specs.Entries.{Entry, fault, unaccepted, link, section, page, Level, l1, l2, entryAt, isFault, isUnaccepted, isLink, rights, first, size, covers, blockTables}
 use Rattle.words.proofs.Fields.{bits-bound}
+use Rattle.entries.specs.Entries.{Entry, fault, unaccepted, link, section, page, Level, l1, l2, entryAt, isFault, isUnaccepted, isLink, rights, placeFirst, coverFirst, placeBlocks, coverBlocks, covers, blockTables}
+use Rattle.entries.proofs.Covers.{cover-low, cover-high, cover-some}
 use Rattle.rules.specs.Store.{blockBytes, blockWords, Store, blocks, base, linked}
 use Rattle.rules.specs.Tables.{typeCode, gives, grants, astray, l2Words}
 use Rattle.rules.specs.Guest.{Walk, stops, ends, passes, endsAt, secondEntry, follow, walk}
-use Rattle.rules.specs.Steps.{Told}
+use Rattle.rules.specs.Steps.{Told, Root}
 use Rattle.rules.proofs.Consistent.{Sound}
-use Rattle.rules.proofs.State.{within, entryOf, Root, Running}
+use Rattle.rules.proofs.State.{within, entryOf, Running}
 use Rattle.rules.proofs.Tables.{word-block, entryOf-table}
 
 -- an entry of the tables covers block p and has rights r
@@ -33,18 +34,20 @@ abbrev pub Sensible : ℕ → ℕ → (ℕ → Entry) → Walk → Type 0
 Sensible B n E (stops v k) = k ≡ 22
 Sensible B n E (ends v p r) = Reached B n E p r
 
-pub size-above : (e : Entry) → isUnaccepted e ≡ false → isFault e ≡ false → 0 < size e
-unfolding isUnaccepted isFault size
-size-above fault u f = absurd (false≢true (sym f))
-size-above unaccepted u f = absurd (false≢true (sym u))
-size-above (link p) u f = omega arith
-size-above (section b r) u f = omega arith
-size-above (page b r) u f = omega arith
+pub place-above : (e : Entry) → isUnaccepted e ≡ false → isFault e ≡ false → 0 < placeBlocks e
+unfolding isUnaccepted isFault placeBlocks
+place-above fault u f = absurd (false≢true (sym f))
+place-above unaccepted u f = absurd (false≢true (sym u))
+place-above (link p) u f = omega arith
+place-above (section b r) u f = omega arith
+place-above (page b r) u f = omega arith
 
--- an entry that is no fault has its place in the region
-pub place-within : (B n : ℕ) (e : Entry) → 0 < size e → astray B n e ≡ false → (B ≤ first e) × (first e + size e ≤ B + n)
+-- an entry that is no fault covers blocks of the region
+pub cover-within : (B n : ℕ) (e : Entry) → 0 < placeBlocks e → astray B n e ≡ false → (B ≤ coverFirst e) × (coverFirst e + coverBlocks e ≤ B + n)
 unfolding astray
-place-within B n e z a = within B n (first e) (size e) (rw (lt-ltb 0 (size e) z) at a)
+cover-within B n e z a =
+    let (low, high) = within B n (placeFirst e) (placeBlocks e) (rw (lt-ltb 0 (placeBlocks e) z) at a) in
+    (omega (arith, cover-low e), omega (arith, cover-high e))
 
 module _ (B n : ℕ) (K : ℕ → ℕ) (E : ℕ → Entry) where
   -- at an entry of the tables
@@ -59,15 +62,15 @@ module _ (B n : ℕ) (K : ℕ → ℕ) (E : ℕ → Entry) where
   at-end : (v : Level) (addr j : ℕ) (e : Entry) → E j ≡ e → j < blockWords * n → Sound B n K e → isFault e ≡ false → Sensible B n E (endsAt v addr e)
   unfolding covers
   at-end v addr j e q l s f =
-      let z = size-above e (s .accepted) f in
-      let (low, high) = place-within B n e z (s .inside) in
-      let m : addr / blockBytes % size e < size e = mod-lt (addr / blockBytes) z in
-      let p = first e + addr / blockBytes % size e in
+      let z = place-above e (s .accepted) f in
+      let (low, high) = cover-within B n e z (s .inside) in
+      let m : addr / blockBytes % coverBlocks e < coverBlocks e = mod-lt (addr / blockBytes) (cover-some e z) in
+      let p = coverFirst e + addr / blockBytes % coverBlocks e in
       record {
         word = j;
         in-memory = l;
         has = ap rights q;
-        reaches = rw (q, among-in (first e) (size e) p (omega arith) (omega arith)) refl;
+        reaches = rw (q, among-in (coverFirst e) (coverBlocks e) p (omega arith) (omega arith)) refl;
         low = omega arith;
         high = omega arith;
       }
@@ -108,9 +111,9 @@ module _ {h : Told} {s : Store} (r : Running h s) (addr : ℕ) where
 
   -- a link leads to an L2 block
   second-word : (place : ℕ) → Sound (base s) (blocks s) types (link place) → InTable l2 (secondWord place)
-  unfolding size first gives grants isLink covers
+  unfolding coverBlocks placeBlocks coverFirst placeFirst gives grants isLink covers
   second-word place sound =
-      let (low, high) = place-within (base s) (blocks s) (link place) (omega arith) (sound .inside) in
+      let (low, high) = cover-within (base s) (blocks s) (link place) (omega arith) (sound .inside) in
       let b = place / blockTables - base s in
       let in-block : base s + secondWord place / blockWords ≡ base s + b = omega arith in
       let leads : gives linked (link place) (base s + b) ≡ true =

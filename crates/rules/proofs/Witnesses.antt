@@ -6,17 +6,20 @@ use native.Mathlib.Omega.{arith}
 use lib.ListN.{length}
 use Rattle.words.specs.Bounded.{any, sum, num}
 use Rattle.words.specs.Words.{word, putWord}
-use Rattle.entries.proofs.Decoding.{entryAt-putWord-other}
 use Rattle.words.proofs.Words.{length-putWord, word-putWord-same}
-use Rattle.entries.specs.Entries.{l1, l2, entryAt, l1Entry, l2Entry, isLinkForm, isSectionForm, isPageForm, isFault, isUnaccepted, isLink, rights, first, size, covers}
+use Rattle.signature.specs.Signed.{misfitImage}
+use Rattle.entries.specs.Entries.{l1, l2, entryAt, l1Entry, l2Entry, isLinkForm, isSectionForm, isPageForm, isFault, isUnaccepted, isLink, isSection, isPage, rights, placeFirst, coverFirst, placeBlocks, coverBlocks, covers}
 use Rattle.entries.specs.Rights.{mayRead, mayWrite, mayExecute, rightsOf}
+use Rattle.entries.specs.Rights.{allows}
+use Rattle.entries.specs.Rights.{unlawfulRights}
+use Rattle.entries.proofs.Decoding.{entryAt-putWord-other}
 use Rattle.rules.specs.Refusals.{answerOf}
-use Rattle.rules.specs.Store.{blockBytes, counterLimit, basePlace, activePlace, Store, recordWord, putRecordWord, retype, typeWord, counterWord, executable, linked, someCounter, misfit, outside, someBlock, settle}
-use Rattle.rules.specs.Signature.{misfitImage}
-use Rattle.rules.specs.Tables.{typeCode, sections, pages, allows, grants, gives, gain, astray}
+use Rattle.rules.specs.Store.{blockBytes, counterLimit, basePlace, activePlace, Store, recordWord, putRecordWord, retype, typeWord, counterWord, executable, linked, someCounter, misfit, outside, someBlock}
+use Rattle.rules.specs.Outcomes.{settle}
+use Rattle.rules.specs.Tables.{typeCode, sections, pages, takes, grants, gives, gain, astray}
 use Rattle.rules.specs.General.{endValue, endsBelow, overruns, someOverrun}
 use Rattle.rules.specs.Begin.{beginOutcome}
-use Rattle.rules.specs.Map.{mapOutcome, unlawfulRights, unfitTarget, clashingTarget, unsignedTarget}
+use Rattle.rules.specs.Map.{mapOutcome, unfitTarget, clashingTarget, unsignedTarget}
 use Rattle.rules.specs.Link.{linkOutcome}
 use Rattle.rules.specs.Unmap.{unmapOutcome}
 use Rattle.rules.specs.Switch.{switchOutcome}
@@ -65,7 +68,7 @@ number-7 = (
 
 -- the first word is 1: an L1 entry that is a link, an L2 entry that is not accepted
 number-8 : (answers [] (smallStore 1 oneL2) (maps pages 0 0 4 0 ∷ unmaps pages 0 0 ∷ []) ≡ (8 ∷ 8 ∷ [])) × (answers [] (smallStore 1 oneL1) (links 0 0 4 0 ∷ []) ≡ (8 ∷ []))
-unfolding answers obey linkOutcome mapOutcome unmapOutcome settle answerOf outside someBlock any recordWord putRecordWord word putWord retype misfitImage l1Entry l2Entry isLinkForm isPageForm isFault isUnaccepted
+unfolding answers obey linkOutcome mapOutcome unmapOutcome settle answerOf outside someBlock any recordWord putRecordWord word putWord retype misfitImage l1Entry l2Entry isLinkForm isPageForm isFault takes isSection isPage isLink
 number-8 =
     let (e1, e2) = first-entry 1 (omega arith) in
     (rw (fit 1 oneL2 refl, length-memory 1, e2) refl, rw (fit 1 oneL1 refl, length-memory 1, e1) refl)
@@ -81,7 +84,7 @@ number-12 = let (_, e) = first-entry 0 (omega arith) in rw (fit 0 oneL2 refl, le
 
 -- a link to a block outside, or to data; the removal of page 100
 number-10 : (answers [] (smallStore 0 oneL1) (links 0 0 8 0 ∷ links 0 0 4 0 ∷ []) ≡ (10 ∷ 10 ∷ [])) × (answers [] (smallStore 0x6403F oneL2) (unmaps pages 0 0 ∷ []) ≡ (10 ∷ []))
-unfolding answers obey linkOutcome unmapOutcome settle answerOf outside someBlock any recordWord putRecordWord word putWord retype l1Entry l2Entry isPageForm isFault isUnaccepted astray first size
+unfolding answers obey linkOutcome unmapOutcome settle answerOf outside someBlock any recordWord putRecordWord word putWord retype l1Entry l2Entry isPageForm isFault takes isSection isPage isLink astray coverFirst placeFirst coverBlocks placeBlocks
 number-10 =
     let (e, _) = first-entry 0 (omega arith) in
     let (_, f) = first-entry 0x6403F (omega arith) in
@@ -91,13 +94,13 @@ number-10 =
 
 -- a counter at the limit that rises; one of 0 that falls; one that falls to the limit and 1; one that falls to the limit is accepted
 number-13-map : answers [] (smallStore 0 (writesTo5 counterLimit)) (maps pages 0 0 5 3 ∷ []) ≡ (13 ∷ [])
-unfolding answers obey mapOutcome settle answerOf outside someBlock any sum num recordWord putRecordWord word putWord misfitImage l2Entry isFault unlawfulRights allows unfitTarget clashingTarget unsignedTarget someOverrun someCounter overruns endValue endsBelow gain gives grants rights isLink covers first size
+unfolding answers obey mapOutcome settle answerOf outside someBlock any sum num recordWord putRecordWord word putWord misfitImage l2Entry isFault unlawfulRights allows unfitTarget clashingTarget unsignedTarget someOverrun someCounter overruns endValue endsBelow gain gives grants rights isLink covers coverFirst placeFirst coverBlocks placeBlocks
 number-13-map = let (_, e) = first-entry 0 (omega arith) in rw (fit 0 (writesTo5 counterLimit) refl, length-memory 0, e) refl
 
 number-13-unmap : (answers [] (smallStore 0x503F (writesTo5 0)) (unmaps pages 0 0 ∷ []) ≡ (13 ∷ []))
     × (answers [] (smallStore 0x503F (writesTo5 (counterLimit + 2))) (unmaps pages 0 0 ∷ []) ≡ (13 ∷ []))
     × (answers [] (smallStore 0x503F (writesTo5 (counterLimit + 1))) (unmaps pages 0 0 ∷ []) ≡ (0 ∷ []))
-unfolding answers obey unmapOutcome settle answerOf outside someBlock any sum num recordWord putRecordWord word putWord l2Entry isPageForm isUnaccepted astray someOverrun someCounter overruns endValue endsBelow gain gives grants allows rights rightsOf mayRead mayWrite mayExecute isLink covers first size
+unfolding answers obey unmapOutcome settle answerOf outside someBlock any sum num recordWord putRecordWord word putWord l2Entry isPageForm takes isSection isPage isLink astray someOverrun someCounter overruns endValue endsBelow gain gives grants allows rights rightsOf mayRead mayWrite mayExecute covers coverFirst placeFirst coverBlocks placeBlocks isFault
 number-13-unmap =
     let (_, e) = first-entry 0x503F (omega arith) in (
       rw (fit 0x503F (writesTo5 0) refl, length-memory 0x503F, e) refl,
@@ -106,7 +109,7 @@ number-13-unmap =
     )
 
 number-13-link : answers [] (smallStore 0 (putRecordWord (putRecordWord oneL1 typeWord 5 (typeCode l2)) (counterWord linked) 5 counterLimit)) (links 0 0 5 0 ∷ []) ≡ (13 ∷ [])
-unfolding answers obey linkOutcome settle answerOf outside someBlock any sum num recordWord putRecordWord word putWord retype l1Entry isFault someOverrun someCounter overruns endValue endsBelow gain gives grants allows rights isLink covers first size
+unfolding answers obey linkOutcome settle answerOf outside someBlock any sum num recordWord putRecordWord word putWord retype l1Entry isFault someOverrun someCounter overruns endValue endsBelow gain gives grants allows rights isLink covers coverFirst placeFirst coverBlocks placeBlocks
 number-13-link =
     let (e, _) = first-entry 0 (omega arith) in
     rw (fit 0 (putRecordWord (putRecordWord oneL1 typeWord 5 (typeCode l2)) (counterWord linked) 5 counterLimit) refl, length-memory 0, e) refl
@@ -117,7 +120,7 @@ number-13-link =
 numbers-21-22-24 : (answers [] (smallStore 0 (putWord ledger activePlace 1)) (accesses reads 0 ∷ []) ≡ (21 ∷ []))
     × (answers [] (smallStore 0 ledger) (accesses reads 0 ∷ []) ≡ (22 ∷ []))
     × (answers [] (smallStore 3 ledger) (accesses reads 0 ∷ []) ≡ (24 ∷ []))
-unfolding answers obey guestOutcome settle answerOf outside word putWord walk passes walkRefusals l1Entry isLinkForm isSectionForm isFault isUnaccepted astray first size
+unfolding answers obey guestOutcome settle answerOf outside word putWord walk passes walkRefusals l1Entry isLinkForm isSectionForm isFault isUnaccepted astray coverFirst placeFirst coverBlocks placeBlocks
 numbers-21-22-24 =
     let (e, _) = first-entry 0 (omega arith) in
     let (f, _) = first-entry 3 (omega arith) in (
@@ -142,5 +145,5 @@ entries-two = (
 )
 
 number-23 : answers [] (record { memory = twoWords; ledger = ledger }) (accesses reads 0x5000 ∷ []) ≡ (23 ∷ [])
-unfolding answers obey guestOutcome settle answerOf misfit outside word walk passes follow walkRefusals needed allows l1Entry l2Entry isLinkForm isPageForm rightsOf mayRead mayWrite mayExecute num isFault isUnaccepted astray first size rights
+unfolding answers obey guestOutcome settle answerOf misfit outside word walk passes follow walkRefusals needed allows l1Entry l2Entry isLinkForm isPageForm rightsOf mayRead mayWrite mayExecute num isFault isUnaccepted astray coverFirst placeFirst coverBlocks placeBlocks rights
 number-23 = let (e, f) = entries-two in rw (length-two, e, f) refl

@@ -2,8 +2,9 @@
 use mathlib.Core.List.{List, [], _∷_}
 use Prim.Native.Nat.{ℕ}
 use Rattle.words.specs.Words.{putWord}
-use Rattle.rules.specs.Refusals.{Refusal, _if_, answerOf}
-use Rattle.rules.specs.Store.{noTable, Store, basePlace, activePlace, blocks, retype, recount, misfit, Outcome, settle}
+use Rattle.rules.specs.Refusals.{Refusal, _if_}
+use Rattle.rules.specs.Store.{noTable, Store, basePlace, activePlace, blocks, retype, recount, misfit}
+use Rattle.rules.specs.Outcomes.{Outcome, callOutcome}
 use Rattle.rules.specs.Tables.{typeD}
 
 -- "1 (stored B not looked at, B given instead)"
@@ -20,4 +21,4 @@ beginAfter s B = record { memory = s .memory; ledger = putWord (putWord (cleared
 
 -- what begin answers and leaves
 unfoldable pub beginOutcome : Store → ℕ → Outcome
-beginOutcome s B = settle (answerOf (beginRefusals s B)) s (beginAfter s B) 0
+beginOutcome s B = callOutcome (beginRefusals s B) s (beginAfter s B)

@@ -8,7 +8,7 @@ use Prim.Native.Nat.{ℕ, suc, _+_, _≤_, _<_}
 use lib.ListN.{take, getD, getElem?}
 use Rattle.entries.specs.Entries.{Level}
 use Rattle.rules.specs.Store.{Store, blocks, Counter, writable, executable, recordWord, counterWord}
-use Rattle.rules.specs.Signature.{contents, certified}
+use Rattle.rules.specs.Signature.{contents, signedBlock}
 use Rattle.rules.specs.Tables.{typeD}
 use Rattle.rules.specs.Begin.{beginOutcome}
 use Rattle.rules.specs.Guest.{ends, walk, byteIndex, Access, fetches}
@@ -23,7 +23,7 @@ pub record Safe (h : Told) (s : Store) : Type 0 where
   -- no block is both writable and executable: "Writable, executable: this w, this x is above 0"
   pub exclusive : (b : ℕ) → b < blocks s → 0 < counted h s writable b → 0 < counted h s executable b → ⊥
   -- every executable block is signed "by the block's bytes at that moment and the list's golden image"
-  pub signs : (b : ℕ) → b < blocks s → 0 < counted h s executable b → certified (h .golden) (h .B) (s .memory) (h .B + b) ≡ true
+  pub signs : (b : ℕ) → b < blocks s → 0 < counted h s executable b → signedBlock (h .golden) (h .B) (s .memory) (h .B + b) ≡ true
   -- "the ledger's w, x and l are these numbers"
   pub honest : (c : Counter) (b : ℕ) → b < blocks s → recordWord (s .ledger) (counterWord c) b ≡ counted h s c b
 
@@ -42,7 +42,7 @@ pub record Fetched (h : Told) (s : Store) (addr byte : ℕ) : Type 0 where
   pub walked : walk (h .B) (blocks s) (s .memory) table addr ≡ ends level block rights
   pub inside : (h .B ≤ block) × (block < h .B + blocks s)
   pub taken : byte ≡ getD (s .memory) (byteIndex (h .B) addr (ends level block rights)) 0
-  pub signs : certified (h .golden) (h .B) (s .memory) block ≡ true
+  pub signs : signedBlock (h .golden) (h .B) (s .memory) block ≡ true
 
 -- the store that the first i steps reach
 abbrev pub storeAt : List ℕ → Store → List Step → ℕ → Store

@@ -1,14 +1,15 @@
 -- Free L1, free L2 of a block: "The type becomes D, the counters lose its entries, the bytes remain" ("Calls").
 use mathlib.Core.Bool.{Bool}
 use mathlib.Core.List.{List, [], _∷_}
-use Prim.Native.Nat.{ℕ, _-_}
+use Prim.Native.Nat.{ℕ}
 use lib.Dec.{eqb}
 use Rattle.words.specs.Bounded.{above, any}
 use Rattle.entries.specs.Entries.{Level, l1, l2, isUnaccepted}
-use Rattle.rules.specs.Refusals.{Refusal, _if_, answerOf}
-use Rattle.rules.specs.Store.{Store, blocks, base, active, linked, counter, retype, misfit, Outcome, settle}
-use Rattle.rules.specs.Tables.{typeD, typeCode, tableBlocks, entries, tableEntry, astray}
-use Rattle.rules.specs.General.{tableOutside, misaligned, otherType, someOverrun, recounted, removed}
+use Rattle.rules.specs.Refusals.{Refusal, _if_}
+use Rattle.rules.specs.Store.{Store, blocks, base, active, linked, counter, misfit}
+use Rattle.rules.specs.Outcomes.{Outcome, callOutcome}
+use Rattle.rules.specs.Tables.{typeCode, tableBlocks, tableEntries, tableEntry, astray}
+use Rattle.rules.specs.General.{tableOutside, misaligned, otherType, someOverrun, retyped, removed}
 
 -- "6 if active (L1) or l above 0 (L2)"
 unfoldable pub inUse : Level → Store → ℕ → Bool
@@ -23,16 +24,15 @@ freeRefusals v s p =
     ∷ 3 if misaligned p (tableBlocks v)
     ∷ 5 if otherType v s p (typeCode v)
     ∷ 6 if inUse v s p
-    ∷ 8 if any (entries v) (λ i. isUnaccepted (tableEntry v s p i))
-    ∷ 10 if any (entries v) (λ i. astray (base s) (blocks s) (tableEntry v s p i))
-    ∷ 13 if someOverrun removed s (entries v) (tableEntry v s p)
+    ∷ 8 if any (tableEntries v) (λ i. isUnaccepted (tableEntry v s p i))
+    ∷ 10 if any (tableEntries v) (λ i. astray (base s) (blocks s) (tableEntry v s p i))
+    ∷ 13 if someOverrun removed s (tableEntries v) (tableEntry v s p)
     ∷ []
 
 -- "The type becomes D, the counters lose its entries, the bytes remain"
 abbrev pub freeAfter : Level → Store → ℕ → Store
-freeAfter v s p =
-    record { memory = s .memory; ledger = retype (recounted removed s (entries v) (tableEntry v s p)) (p - base s) (tableBlocks v) typeD }
+freeAfter = retyped removed
 
 -- what free answers and leaves
 unfoldable pub freeOutcome : Level → Store → ℕ → Outcome
-freeOutcome v s p = settle (answerOf (freeRefusals v s p)) s (freeAfter v s p) 0
+freeOutcome v s p = callOutcome (freeRefusals v s p) s (freeAfter v s p)

@@ -4,10 +4,12 @@ use mathlib.Core.List.{List, [], _∷_}
 use Prim.Native.Nat.{ℕ, _+_, _-_, _*_, _/_, _%_, _^_}
 use lib.ListN.{getD, set}
 use Rattle.words.specs.Words.{bits}
-use Rattle.entries.specs.Entries.{Entry, fault, unaccepted, link, section, page, Level, l1, l2, blockTables, entryAt, isFault, isUnaccepted, rights, first, size}
+use Rattle.entries.specs.Entries.{Entry, fault, unaccepted, link, section, page, Level, l1, l2, blockTables, entryAt, isFault, isUnaccepted, rights, coverFirst, coverBlocks}
 use Rattle.rules.specs.Refusals.{Refusal, _if_, answerOf}
-use Rattle.rules.specs.Store.{blockBytes, blockWords, Store, blocks, base, active, misfit, Outcome, settle}
-use Rattle.rules.specs.Tables.{tableBlocks, l2Words, Right, read, write, execute, allows, astray}
+use Rattle.rules.specs.Store.{blockBytes, blockWords, Store, blocks, base, active, misfit}
+use Rattle.rules.specs.Outcomes.{Outcome, Accepted, settle}
+use Rattle.rules.specs.Tables.{tableBlocks, l2Words, astray}
+use Rattle.entries.specs.Rights.{Right, read, write, execute, allows}
 use Rattle.rules.specs.General.{misaligned, tableOutside}
 
 -- a walk stops at an entry of a level with a number, or ends at an entry of a level in a physical block, with rights
@@ -19,9 +21,9 @@ pub data Walk : Type 0 where
 unfoldable pub passes : Level → ℕ → ℕ → Entry → Walk → Walk
 passes v B n e onward = cond (isUnaccepted e || astray B n e) (stops v 24) (cond (isFault e) (stops v 22) onward)
 
--- the end of a walk at an entry: the block of its place that the address names
+-- the end of a walk at an entry: of the blocks that it covers, the one that the address names
 abbrev pub endsAt : Level → ℕ → Entry → Walk
-endsAt v addr e = ends v (first e + addr / blockBytes % size e) (rights e)
+endsAt v addr e = ends v (coverFirst e + addr / blockBytes % coverBlocks e) (rights e)
 
 -- the entry of an L2 table, by its 1 KiB place, that the address names: "19..12 L2"
 abbrev pub secondEntry : ℕ → List ℕ → ℕ → ℕ → Entry
@@ -89,11 +91,13 @@ byteGiven reads memory j = getD memory j 0
 byteGiven fetches memory j = getD memory j 0
 byteGiven (writes v) memory j = 0
 
--- what an accepted access leaves
-abbrev pub guestAfter : Access → Store → ℕ → Store
-guestAfter a s addr = record { memory = written a (s .memory) (byteIndex (base s) addr (activeWalk s addr)); ledger = s .ledger }
+-- what an accepted access leaves and gives
+abbrev pub guestAccepted : Access → Store → ℕ → Accepted
+guestAccepted a s addr =
+    let j = byteIndex (base s) addr (activeWalk s addr) in
+    record { store = record { memory = written a (s .memory) j; ledger = s .ledger }; byte = byteGiven a (s .memory) j }
 
 -- what an access answers, leaves and gives
 unfoldable pub guestOutcome : Access → Store → ℕ → Outcome
 guestOutcome a s addr =
-    settle (answerOf (guestRefusals a s addr)) s (guestAfter a s addr) (byteGiven a (s .memory) (byteIndex (base s) addr (activeWalk s addr)))
+    settle (answerOf (guestRefusals a s addr)) s (guestAccepted a s addr)

@@ -1,5 +1,6 @@
 pub mod Refusals
 pub mod Store
+pub mod Outcomes
 pub mod Signature
 pub mod Tables
 pub mod General

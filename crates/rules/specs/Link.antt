@@ -4,8 +4,9 @@ use Prim.Native.Nat.{ℕ, _+_, _*_}
 use lib.Dec.{leb}
 use Rattle.words.specs.Bounded.{neqb}
 use Rattle.entries.specs.Entries.{Entry, link, l1, l2, blockTables}
-use Rattle.rules.specs.Refusals.{Refusal, _if_, answerOf}
-use Rattle.rules.specs.Store.{Store, base, typeOf, misfit, Outcome, settle}
+use Rattle.rules.specs.Refusals.{Refusal, _if_}
+use Rattle.rules.specs.Store.{Store, base, typeOf, misfit}
+use Rattle.rules.specs.Outcomes.{Outcome, callOutcome}
 use Rattle.rules.specs.Tables.{typeCode, tableBlocks}
 use Rattle.rules.specs.General.{tableOutside, misaligned, beyondTable, otherType, executableHolder, someOverrun, occupied, entered, added}
 
@@ -31,4 +32,4 @@ linkRefusals s p i t j =
 
 -- what link answers and leaves
 unfoldable pub linkOutcome : Store → ℕ → ℕ → ℕ → ℕ → Outcome
-linkOutcome s p i t j = settle (answerOf (linkRefusals s p i t j)) s (entered s p i 1 (linkTo t j)) 0
+linkOutcome s p i t j = callOutcome (linkRefusals s p i t j) s (entered s p i 1 (λ k. linkTo t j))

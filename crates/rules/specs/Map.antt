@@ -1,55 +1,55 @@
 -- Map L1 (section), map L2 (page) with block, index, target, rights ("Calls").
 use mathlib.Core.Bool.{Bool, not, _&&_, _||_}
-use mathlib.Core.List.{List, [], _∷_}
+use mathlib.Core.List.{List, [], _∷_, _++_}
 use Prim.Native.Nat.{ℕ}
 use Rattle.words.specs.Bounded.{above, neqb, among}
-use Rattle.rules.specs.Refusals.{Refusal, _if_, answerOf}
-use Rattle.rules.specs.Store.{Store, blocks, base, writable, executable, typeOf, counter, outside, someBlock, misfit, Outcome, settle}
-use Rattle.rules.specs.Signature.{misfitImage, certified}
-use Rattle.rules.specs.Tables.{typeD, typeCode, tableBlocks, Form, level, covered, words, mapping, read, write, execute, allows}
+use Rattle.rules.specs.Refusals.{Refusal, _if_}
+use Rattle.rules.specs.Store.{Store, blocks, base, writable, executable, typeOf, counter, outside, someBlock, misfit}
+use Rattle.rules.specs.Outcomes.{Outcome, callOutcome}
+use Rattle.rules.specs.Signature.{imageRefusals, signedBlock}
+use Rattle.rules.specs.Tables.{typeD, typeCode, tableBlocks, Form, level, targetBlocks, mappingWords, mapping}
+use Rattle.entries.specs.Rights.{write, execute, allows, unlawfulRights}
 use Rattle.rules.specs.General.{tableOutside, misaligned, beyondTable, otherType, holder, executableHolder, someOverrun, occupied, entered, added}
-
--- "9 if rights exceed 7, or hold write or execute without read"
-unfoldable pub unlawfulRights : ℕ → Bool
-unlawfulRights r = above r 7 || not (allows r read) && (allows r write || allows r execute)
 
 -- "10 if the target isn't wholly in the region, is to be written and not D, or is to be executed and includes the holder"
 unfoldable pub unfitTarget : Form → Store → ℕ → ℕ → ℕ → ℕ → Bool
 unfitTarget f s p i t r =
-    outside (base s) (blocks s) t (covered f)
-    || allows r write && someBlock t (covered f) (λ b. neqb (typeOf s b) typeD)
-    || allows r execute && among t (covered f) (holder p i)
+    outside (base s) (blocks s) t (targetBlocks f)
+    || allows r write && someBlock t (targetBlocks f) (λ b. neqb (typeOf s b) typeD)
+    || allows r execute && among t (targetBlocks f) (holder p i)
 
 -- "11 if both write and execute, or write onto x above 0, or execute onto w above 0"
 unfoldable pub clashingTarget : Form → Store → ℕ → ℕ → Bool
 clashingTarget f s t r =
     allows r write && allows r execute
-    || allows r write && someBlock t (covered f) (λ b. above (counter executable s b) 0)
-    || allows r execute && someBlock t (covered f) (λ b. above (counter writable s b) 0)
+    || allows r write && someBlock t (targetBlocks f) (λ b. above (counter executable s b) 0)
+    || allows r execute && someBlock t (targetBlocks f) (λ b. above (counter writable s b) 0)
 
 -- "12 if a block to be executed is unsigned"
 unfoldable pub unsignedTarget : Form → List ℕ → Store → ℕ → ℕ → Bool
-unsignedTarget f golden s t r = allows r execute && someBlock t (covered f) (λ b. not (certified golden (base s) (s .memory) b))
+unsignedTarget f golden s t r = allows r execute && someBlock t (targetBlocks f) (λ b. not (signedBlock golden (base s) (s .memory) b))
 
+-- an index is a multiple of the words of a mapping, which none breaks while these are one; else
 -- "1; 2; 3 (L1, or section target not a multiple of 256); 4; 5; 7; 8 unless the entry is a fault; 9 ..; 10 ..; 11 ..; 12 ..; 13"
 abbrev pub mapRefusals : Form → List ℕ → Store → ℕ → ℕ → ℕ → ℕ → List Refusal
 mapRefusals f golden s p i t r =
     1 if misfit s (base s)
-    ∷ 1 if misfitImage golden
-    ∷ 2 if tableOutside (level f) s p
+    ∷ imageRefusals golden
+    ++ 2 if tableOutside (level f) s p
     ∷ 3 if misaligned p (tableBlocks (level f))
-    ∷ 3 if misaligned t (covered f)
+    ∷ 3 if misaligned t (targetBlocks f)
+    ∷ 3 if misaligned i (mappingWords f)
     ∷ 4 if beyondTable (level f) i
     ∷ 5 if otherType (level f) s p (typeCode (level f))
     ∷ 7 if executableHolder s p i
-    ∷ 8 if occupied (level f) s p i (words f)
+    ∷ 8 if occupied (level f) s p i (mappingWords f)
     ∷ 9 if unlawfulRights r
     ∷ 10 if unfitTarget f s p i t r
     ∷ 11 if clashingTarget f s t r
     ∷ 12 if unsignedTarget f golden s t r
-    ∷ 13 if someOverrun added s (words f) (λ k. mapping f t r)
+    ∷ 13 if someOverrun added s (mappingWords f) (mapping f t r)
     ∷ []
 
 -- what map answers and leaves
 unfoldable pub mapOutcome : Form → List ℕ → Store → ℕ → ℕ → ℕ → ℕ → Outcome
-mapOutcome f golden s p i t r = settle (answerOf (mapRefusals f golden s p i t r)) s (entered s p i (words f) (mapping f t r)) 0
+mapOutcome f golden s p i t r = callOutcome (mapRefusals f golden s p i t r) s (entered s p i (mappingWords f) (mapping f t r))

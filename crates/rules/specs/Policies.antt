@@ -6,22 +6,17 @@ use mathlib.Core.Option.{some}
 use mathlib.Core.Path.{_≡_}
 use Prim.Native.Nat.{ℕ, suc, _+_, _-_, _*_, _%_, _≤_, _<_}
 use lib.ListN.{getD, getElem?}
-use Rattle.entries.specs.Entries.{page, Level, l1, l2, entryAt}
+use Rattle.entries.specs.Entries.{page, Level, l2, entryAt}
 use Rattle.rules.specs.Store.{blockBytes, blockWords, Store, blocks, writable, executable}
-use Rattle.rules.specs.Signature.{misfitImage, contents, certified}
-use Rattle.rules.specs.Tables.{typeCode, tableBlocks, entries, Form, pages, Right, write, execute, allows}
+use Rattle.rules.specs.Signature.{contents, signedBlock}
+use Rattle.signature.specs.Signed.{misfitImage}
+use Rattle.rules.specs.Tables.{typeCode, tableEntries, Form, pages}
+use Rattle.entries.specs.Rights.{Right, write, execute, allows}
 use Rattle.rules.specs.Begin.{beginOutcome}
 use Rattle.rules.specs.Switch.{switchOutcome}
 use Rattle.rules.specs.Guest.{ends, walk, Access, fetches}
-use Rattle.rules.specs.Steps.{Step, frees, maps, unmaps, accesses, run, Told}
+use Rattle.rules.specs.Steps.{Step, frees, maps, unmaps, accesses, run, Told, Root}
 use Rattle.rules.specs.Demand3.{counted, storeAt, toldAt}
-
--- an L1 table in the region of n blocks from B on
-pub record Root (B n : ℕ) (types : ℕ → ℕ) (p : ℕ) : Type 0 where
-  pub low : B ≤ p
-  pub high : p + tableBlocks l1 ≤ B + n
-  pub aligned : p % tableBlocks l1 ≡ 0
-  pub typed : (i : ℕ) → i < tableBlocks l1 → types (p + i) ≡ typeCode l1
 
 -- a table to which the hardware can be switched: "the hypervisor allows to select only these memory areas to be used as page tables by the MMU" (section 2.1)
 abbrev pub Switchable : Told → Store → ℕ → Type 0
@@ -56,7 +51,7 @@ InWorkingSet h s p = Accessible h s execute p
 
 -- "for all ⟨bl, cnt⟩ ∈ WS(σ), integrity(GI, bl, cnt)" (definition 3), which is "sig(bl, cnt) ∈ GI" (definition 2)
 abbrev pub Integrity : Told → Store → Type 0
-Integrity h s = (p : ℕ) → InWorkingSet h s p → certified (h .golden) (h .B) (s .memory) p ≡ true
+Integrity h s = (p : ℕ) → InWorkingSet h s p → signedBlock (h .golden) (h .B) (s .memory) p ≡ true
 
 -- the guest alters writable blocks only: "if content(bl, σ) = content(bl, σ′) then ρwt(bl) > 0" (proposition 2.3, which means ≠)
 abbrev pub AltersWritableOnly : Told → Store → Store → Type 0
@@ -81,18 +76,18 @@ pub record FetchedCode (h : Told) (s : Store) (addr byte : ℕ) : Type 0 where
   pub block : ℕ
   pub executes : InWorkingSet h s block
   pub taken : byte ≡ getD (contents (s .memory) (block - h .B)) (addr % blockBytes) 0
-  pub signs : certified (h .golden) (h .B) (s .memory) block ≡ true
+  pub signs : signedBlock (h .golden) (h .B) (s .memory) block ≡ true
 
 -- entry i of the L2 block p maps the signed block t to be read and written; no other entry makes block t writable (so none makes it
 -- executable), and none makes block p executable: "ρex(bl) = 0" (table 2)
 pub record WritableByOneEntry (h : Told) (s : Store) (p i t : ℕ) : Type 0 where
   pub inside : (h .B ≤ p) × (p < h .B + blocks s)
   pub table : h .types p ≡ typeCode l2
-  pub index : i < entries l2
+  pub index : i < tableEntries l2
   pub entry : entryAt l2 (s .memory) (blockWords * (p - h .B) + i) ≡ page t 3
   pub alone : counted h s writable (t - h .B) ≡ 1
   pub holder : counted h s executable (p - h .B) ≡ 0
-  pub signs : certified (h .golden) (h .B) (s .memory) t ≡ true
+  pub signs : signedBlock (h .golden) (h .B) (s .memory) t ≡ true
 
 -- the entry is unmapped and mapped to be read and executed, and back: "(i) to downgrade the existing mapping that conflicts with the suspended
 -- access right and (ii) to re-enable the suspended access right" (section 3)

@@ -13,9 +13,3 @@ unfoldable pub answerOf : List Refusal → ℕ
 answerOf [] = 0
 answerOf (k if true ∷ rs) = k
 answerOf (k if false ∷ rs) = answerOf rs
-
--- all refusals of a list but the last
-abbrev pub front : List Refusal → List Refusal
-front [] = []
-front (r ∷ []) = []
-front (r ∷ s ∷ rs) = r ∷ front (s ∷ rs)

@@ -2,10 +2,12 @@
 use mathlib.Core.Bool.{cond}
 use mathlib.Core.List.{List, [], _∷_}
 use mathlib.Core.Option.{Option, none, some}
-use Prim.Native.Nat.{ℕ, zero, suc, _+_, _*_, _/_}
+use mathlib.Core.Path.{_≡_}
+use Prim.Native.Nat.{ℕ, zero, suc, _+_, _*_, _/_, _%_, _≤_, _<_}
 use Rattle.words.specs.Bounded.{among}
-use Rattle.entries.specs.Entries.{Level}
-use Rattle.rules.specs.Store.{blockWords, Store, Counter, Outcome}
+use Rattle.entries.specs.Entries.{Level, l1}
+use Rattle.rules.specs.Store.{blockWords, Store, Counter}
+use Rattle.rules.specs.Outcomes.{Outcome}
 use Rattle.rules.specs.Tables.{typeD, typeCode, tableBlocks, Form, typedEntry, gain}
 use Rattle.rules.specs.Begin.{beginOutcome}
 use Rattle.rules.specs.Create.{createOutcome}
@@ -67,6 +69,13 @@ begun B golden = record { B = B; types = λ b. typeD; table = none; golden = gol
 -- the m blocks from p on have type t, the others their types
 unfoldable pub typed : (ℕ → ℕ) → ℕ → ℕ → ℕ → ℕ → ℕ
 typed types p m t b = cond (among p m b) t (types b)
+
+-- an L1 table in the region of n blocks from B on
+pub record Root (B n : ℕ) (types : ℕ → ℕ) (p : ℕ) : Type 0 where
+  pub low : B ≤ p
+  pub high : p + tableBlocks l1 ≤ B + n
+  pub aligned : p % tableBlocks l1 ≡ 0
+  pub typed : (i : ℕ) → i < tableBlocks l1 → types (p + i) ≡ typeCode l1
 
 -- "An accepted create L1 adds its four blocks as L1, an accepted create L2 its block as L2, and an accepted free takes away what it names"
 unfoldable pub afterAccepted : Told → Step → Told

@@ -1,4 +1,4 @@
--- The memory, the ledger and what a call leaves of them ("Memory and ledger", "Calls").
+-- The memory and the ledger ("Memory and ledger").
 use mathlib.Core.Bool.{Bool, _||_}
 use mathlib.Core.List.{List}
 use Prim.Native.Nat.{ℕ, zero, suc, _+_, _-_, _*_, _/_, _%_, _^_}
@@ -24,12 +24,15 @@ baseAlignment = 256
 abbrev pub physicalBlocks : ℕ
 physicalBlocks = 2 ^ 20
 
--- "The ledger is 8 + 16 × n bytes": the bytes before the records, and the bytes of a record
+-- "The ledger is 8 + 16 × n bytes": the bytes before the records, and the words and bytes of a record
 abbrev pub ledgerHeadBytes : ℕ
 ledgerHeadBytes = 8
 
+abbrev pub recordWords : ℕ
+recordWords = 4
+
 abbrev pub ledgerRecordBytes : ℕ
-ledgerRecordBytes = 16
+ledgerRecordBytes = 4 * recordWords
 
 -- "FFFFFFFF hexadecimal for none"
 abbrev pub noTable : ℕ
@@ -113,10 +116,10 @@ unfoldable pub recount : List ℕ → ℕ → (Counter → ℕ → ℕ) → List
 recount ledger zero f = ledger
 recount ledger (suc n) f = putCounters (recount ledger n f) n (λ c. f c n)
 
--- the m words of memory from word j on become v
-unfoldable pub fill : List ℕ → ℕ → ℕ → ℕ → List ℕ
-fill memory j zero v = memory
-fill memory j (suc m) v = putWord (fill memory j m v) (4 * (j + m)) v
+-- the m words of memory from word j on become w 0, w 1, ..
+unfoldable pub fill : List ℕ → ℕ → ℕ → (ℕ → ℕ) → List ℕ
+fill memory j zero w = memory
+fill memory j (suc m) w = putWord (fill memory j m w) (4 * (j + m)) (w m)
 
 -- "the region is B to B + n − 1": the m blocks from p on are not wholly in it
 unfoldable pub outside : ℕ → ℕ → ℕ → ℕ → Bool
@@ -136,14 +139,3 @@ misfit s B =
     neqb (length (s .memory) % blockBytes) 0 || above leastBlocks (blocks s) || above (blocks s) mostBlocks
     || neqb (length (s .ledger)) (ledgerHeadBytes + ledgerRecordBytes * blocks s)
     || neqb (B % baseAlignment) 0 || above (B + blocks s) physicalBlocks
-
--- a call's answer, the store afterwards, and the byte that is given
-pub record Outcome : Type 0 where
-  pub answer : ℕ
-  pub after : Store
-  pub byte : ℕ
-
--- "A refusal .., and no lent byte changes. An accepted read or fetch also gives the memory's byte .., a refused one 0 in its place"
-unfoldable pub settle : ℕ → Store → Store → ℕ → Outcome
-settle zero old new given = record { answer = 0; after = new; byte = given }
-settle (suc k) old new given = record { answer = suc k; after = old; byte = 0 }

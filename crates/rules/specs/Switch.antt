@@ -3,8 +3,9 @@ use mathlib.Core.List.{List, [], _∷_}
 use Prim.Native.Nat.{ℕ}
 use Rattle.words.specs.Words.{putWord}
 use Rattle.entries.specs.Entries.{l1}
-use Rattle.rules.specs.Refusals.{Refusal, _if_, answerOf}
-use Rattle.rules.specs.Store.{Store, activePlace, base, misfit, Outcome, settle}
+use Rattle.rules.specs.Refusals.{Refusal, _if_}
+use Rattle.rules.specs.Store.{Store, activePlace, base, misfit}
+use Rattle.rules.specs.Outcomes.{Outcome, callOutcome}
 use Rattle.rules.specs.Tables.{typeCode, tableBlocks}
 use Rattle.rules.specs.General.{tableOutside, misaligned, otherType}
 
@@ -23,4 +24,4 @@ switchAfter s p = record { memory = s .memory; ledger = putWord (s .ledger) acti
 
 -- what switch answers and leaves
 unfoldable pub switchOutcome : Store → ℕ → Outcome
-switchOutcome s p = settle (answerOf (switchRefusals s p)) s (switchAfter s p) 0
+switchOutcome s p = callOutcome (switchRefusals s p) s (switchAfter s p)

@@ -1,11 +1,11 @@
 -- Tables, mappings, and what an entry gives to which blocks ("Memory and ledger", "Entries").
-use mathlib.Core.Bool.{Bool, cond, _&&_}
+use mathlib.Core.Bool.{Bool, cond, _&&_, _||_}
 use mathlib.Core.List.{List}
 use Prim.Native.Nat.{ℕ, _+_, _-_, _*_}
 use lib.Dec.{eqb}
 use Rattle.words.specs.Bounded.{above, count}
-use Rattle.words.specs.Words.{bits}
-use Rattle.entries.specs.Entries.{Entry, fault, section, page, Level, l1, l2, sectionBlocks, entryAt, isLink, rights, first, size, covers}
+use Rattle.entries.specs.Entries.{Entry, fault, section, page, Level, l1, l2, sectionBlocks, entryAt, isFault, isLink, isSection, isPage, rights, placeFirst, placeBlocks, covers}
+use Rattle.entries.specs.Rights.{write, execute, allows}
 use Rattle.rules.specs.Store.{blockWords, Store, base, Counter, writable, executable, linked, outside}
 
 -- "type (0 = D data, 1 = L1, 2 = L2)"
@@ -22,8 +22,8 @@ tableBlocks l1 = 4
 tableBlocks l2 = 1
 
 -- "with 4,096 words"; "its index 0 to 1,023"
-abbrev pub entries : Level → ℕ
-entries v = blockWords * tableBlocks v
+abbrev pub tableEntries : Level → ℕ
+tableEntries v = blockWords * tableBlocks v
 
 -- "four L2 tables of 256 words"
 abbrev pub l2Words : ℕ
@@ -39,20 +39,25 @@ abbrev pub level : Form → Level
 level sections = l1
 level pages = l2
 
--- "counts once on each of its 256 blocks", "section target not a multiple of 256": the blocks of a target, and its alignment
-abbrev pub covered : Form → ℕ
-covered sections = sectionBlocks
-covered pages = 1
+-- "section target not a multiple of 256": the blocks of a target, and its alignment
+abbrev pub targetBlocks : Form → ℕ
+targetBlocks sections = sectionBlocks
+targetBlocks pages = 1
 
--- the words of a table that a mapping takes
-abbrev pub words : Form → ℕ
-words sections = 1
-words pages = 1
+-- the words of a table that a mapping takes, and the alignment of the first
+abbrev pub mappingWords : Form → ℕ
+mappingWords sections = 1
+mappingWords pages = 1
 
--- the entry that maps these rights onto the target
-abbrev pub mapping : Form → ℕ → ℕ → Entry
-mapping sections t r = section t r
-mapping pages t r = page t r
+-- the entry of word k of the mapping of these rights onto the target
+abbrev pub mapping : Form → ℕ → ℕ → ℕ → Entry
+mapping sections t r k = section t r
+mapping pages t r k = page t r
+
+-- the entries that a form's unmap takes away: a link too where sections stand
+unfoldable pub takes : Form → Entry → Bool
+takes sections e = isFault e || isSection e || isLink e
+takes pages e = isFault e || isPage e
 
 -- word j of the memory as an entry of a block of this type: "All entries of blocks typed L1 or L2 are counted", no others
 unfoldable pub typedEntry : ℕ → List ℕ → ℕ → Entry
@@ -64,18 +69,6 @@ wordIndex s p i = blockWords * (p - base s) + i
 
 abbrev pub tableEntry : Level → Store → ℕ → ℕ → Entry
 tableEntry v s p i = entryAt v (s .memory) (wordIndex s p i)
-
--- "Rights in a call are 1 + 2 + 4 likewise": read, write, execute
-pub data Right : Type 0 where
-  read : Right
-  write : Right
-  execute : Right
-
--- the rights r hold this right
-unfoldable pub allows : ℕ → Right → Bool
-allows r read = eqb (bits r 0 1) 1
-allows r write = eqb (bits r 1 1) 1
-allows r execute = eqb (bits r 2 1) 1
 
 -- "w those giving the guest write access to this block, x execute access, l the links from L1 entries to this block"
 unfoldable pub grants : Counter → Entry → Bool
@@ -93,4 +86,4 @@ gain m e c p = count m (λ i. gives c (e i) p)
 
 -- the entry has a place, and it is "not wholly in the region"
 unfoldable pub astray : ℕ → ℕ → Entry → Bool
-astray B n e = above (size e) 0 && outside B n (first e) (size e)
+astray B n e = above (placeBlocks e) 0 && outside B n (placeFirst e) (placeBlocks e)

@@ -6,10 +6,10 @@ use Prim.Native.Nat.{ℕ, zero, suc, _+_, _-_, _*_, _<_, _≤_}
 use native.Mathlib.Nat.{add-assoc, add-suc, add-zero, zero-add}
 use native.Mathlib.Numerals.{add-one}
 use native.Mathlib.Omega.{arith}
-use borrow.Author.Tests.{lt-ltb, le-ltb}
 use lib.Dec.{ltb}
 use lib.ListN.{getD, take, set, length-set}
 use lib.Seq.{getD-take, take-suc-set}
+use borrow.Author.Tests.{lt-ltb, le-ltb}
 use Rattle.words.specs.Lists.{part}
 use Rattle.words.proofs.Lists.{Filling}
 use Rattle.signature.specs.Sha256.{_⊞_, σ₀, σ₁, K, blockWord, nextWord, schedule, round, rounds, compress, hashes}

@@ -3,8 +3,8 @@ use mathlib.Core.Path.{_≡_, sym, ap}
 use mathlib.Core.Bool.{true, false, not}
 use mathlib.Core.List.{List}
 use Prim.Native.Nat.{ℕ, _+_, _*_, _/_, _<_}
-use borrow.Author.Tests.{eq-eqb, ne-eqb, not-true}
 use lib.ListN.{length, getD}
+use borrow.Author.Tests.{eq-eqb, ne-eqb, not-true}
 use Rattle.words.proofs.Bounded.{any-step, any-hit}
 use Rattle.signature.specs.Signed.{digestBytes, agrees, listed}
 

@@ -5,8 +5,7 @@ use crate::constants::round_constants;
 use crate::padding::block_schedule;
 use crate::padding::padded_length;
 ghost use mathlib.Core.Path.{_≡_};
-ghost use Prim.Native.Nat.{_*_, _-_, _/_, _%_, _^_, _<_};
-ghost use lib.ListN.{getD};
+ghost use Prim.Native.Nat.{_*_, _-_, _/_, _%_, _<_};
 ghost use Rattle.signature.specs.Sha256.{hash, digestByte, sha256};
 
 fn hash_of(m: &[u8]) -> [u32; 8]

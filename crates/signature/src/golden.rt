@@ -1,14 +1,26 @@
-// Is a block signed: the search of the golden image for its digest.
+// The golden image: its length, and the search for the digest of a block.
 use crate::digest::sha_256;
 ghost use mathlib.Core.Path.{_≡_};
 ghost use Prim.Native.Nat.{_+_, _≤_};
 ghost use lib.ListN.{length};
 ghost use Rattle.words.specs.Lists.{part};
-ghost use Rattle.signature.specs.Signed.{blockBytes, listed, signed};
+ghost use Rattle.signature.specs.Signed.{blockBytes, listed, misfitImage, signed};
 
 pub const BLOCK_BYTES: usize = 4096;
 
-pub const DIGEST_BYTES: usize = 32;
+const DIGEST_BYTES: usize = 32;
+
+const MOST_DIGESTS: usize = 1024;
+
+// The length is not that of 0 to 1,024 digests.
+pub fn is_misfit_image(golden: &[u8]) -> bool
+    ensures { λ r. ⌜ r ≡ misfitImage (now (golden .entry)) ⌝ }
+{
+    if golden.len() % DIGEST_BYTES != 0 {
+        return true;
+    }
+    MOST_DIGESTS < golden.len() / DIGEST_BYTES
+}
 
 fn is_listed(d: [u8; 32], golden: &[u8]) -> bool
     ensures { λ r. ⌜ r ≡ listed d (now (golden .entry)) ⌝ }

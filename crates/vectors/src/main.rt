@@ -3,7 +3,6 @@ use libc::STDOUT_FILENO;
 use signature::digest::sha_256;
 use signature::golden::is_signed;
 use signature::golden::is_signed_at;
-ghost use mathlib.Core.Path.{_≡_};
 ghost use Prim.Native.Nat.{_<_, _≤_};
 ghost use lib.ListN.{length};
 

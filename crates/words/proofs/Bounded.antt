@@ -7,8 +7,8 @@ use native.Mathlib.Nat.{eq-or-lt-of-le, le-of-suc-le-suc}
 use native.Mathlib.Decide.{decLt}
 use native.Mathlib.Numerals.{add-one}
 use native.Mathlib.Omega.{arith}
-use borrow.Author.Tests.{lt-ltb, le-ltb, lt-leb, le-leb, ltb-true, leb-true, eq-eqb, ne-eqb}
 use lib.Dec.{leb, ltb}
+use borrow.Author.Tests.{lt-ltb, le-ltb, lt-leb, le-leb, ltb-true, leb-true, eq-eqb, ne-eqb}
 use Rattle.words.specs.Bounded.{above, neqb, among, any}
 
 -- a number below n + 1 is n or below n
@@ -32,6 +32,10 @@ window-or-outside i a m =
 pub false-unless : (a : Bool) → (a ≡ true → ⊥) → a ≡ false
 false-unless true h = absurd (h refl)
 false-unless false h = refl
+
+pub true-unless : (a : Bool) → (a ≡ false → ⊥) → a ≡ true
+true-unless true h = refl
+true-unless false h = absurd (h refl)
 
 pub and-true-left : (a b : Bool) → (a && b) ≡ true → a ≡ true
 and-true-left true b e = refl
@@ -60,6 +64,10 @@ or-cases false b e = inr e
 pub and-true : (a b : Bool) → (a && b) ≡ true → (a ≡ true) × (b ≡ true)
 and-true true b e = (refl, e)
 and-true false b e = absurd (false≢true e)
+
+-- what a function answered is the test that it promised
+pub told : {r a b : Bool} → r ≡ a → r ≡ b → a ≡ b
+told p q = sym p ∙ q
 
 -- b is one of the m numbers from p on
 module _ (p m b : ℕ) where
@@ -91,7 +99,7 @@ pub and-both : (a b : Bool) → a ≡ true → b ≡ true → (a && b) ≡ true
 and-both a b e f = rw (e, f) refl
 
 module _ (p : ℕ → Bool) where
-  pub any-more : (n : ℕ) → any (n + 1) p ≡ (any n p || p n)
+  any-more : (n : ℕ) → any (n + 1) p ≡ (any n p || p n)
   unfolding any
   any-more n = rw add-one refl
 

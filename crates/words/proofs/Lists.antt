@@ -1,21 +1,17 @@
 -- Laws of parts of lists, of lists made by their elements, and of lists stored over others.
 use mathlib.Core.Path.{_≡_, refl, sym, _∙_}
-use mathlib.Core.List.{List, [], _∷_, _++_, append-assoc}
+use mathlib.Core.List.{List, [], _∷_, _++_}
 use mathlib.Core.Logic.{⊎-elim}
 use Prim.Native.Nat.{ℕ, zero, suc, _+_, _-_, _<_, _≤_}
 use native.Mathlib.Nat.{add-zero, add-suc, suc-add}
 use native.Mathlib.Numerals.{add-one}
 use native.Mathlib.Omega.{arith}
 use lib.ListN.{length, getD, take, drop, set, length-append, length-take, length-drop, length-set, replicate, length-replicate, List·getD-append}
-use lib.Seq.{getD-take, getD-drop, getD-at, take-suc-set, take-all, take-suc, drop-at, take-append-seam, length-take-le, ext-getD, sets, sets-eq}
+use lib.Seq.{getD-take, getD-drop, getD-at, take-suc-set, take-all, take-suc, length-take-le, ext-getD, sets, sets-eq}
 use Rattle.words.specs.Lists.{part, tabulate, putList}
 use Rattle.words.proofs.Bounded.{last-or-below}
 
 module _ (f : ℕ → ℕ) where
-  pub tabulate-more : (n : ℕ) → tabulate f (n + 1) ≡ tabulate f n ++ (f n ∷ [])
-  unfolding tabulate
-  tabulate-more n = rw add-one refl
-
   pub length-tabulate : (n : ℕ) → length (tabulate f n) ≡ n
   unfolding tabulate
   length-tabulate zero = refl
@@ -30,7 +26,7 @@ module _ (f : ℕ → ℕ) where
       (last-or-below h)
 
 module _ (xs : List ℕ) (a m : ℕ) where
-  pub length-part : a + m ≤ length xs → length (part xs a m) ≡ m
+  length-part : a + m ≤ length xs → length (part xs a m) ≡ m
   unfolding part
   length-part h = simp (length-take, length-drop) (omega arith)
 
@@ -80,13 +76,6 @@ stores xs a (y ∷ ys) = stores (set xs a y) (suc a) ys
 -- what is stored, between what stands before and behind it
 pub putList-between : (xs : List ℕ) (a : ℕ) (ys : List ℕ) → a + length ys ≤ length xs → putList xs a ys ≡ take a xs ++ ys ++ drop (a + length ys) xs
 putList-between xs a ys h = stores xs a ys ∙ sets-eq ys xs a h
-
--- what was stored is read back
-pub part-putList : (xs : List ℕ) (a : ℕ) (ys : List ℕ) → a + length ys ≤ length xs → part (putList xs a ys) a (length ys) ≡ ys
-unfolding part
-part-putList xs a ys h =
-    rw (putList-between xs a ys h, append-assoc, drop-at (take a xs) (ys ++ drop (a + length ys) xs) a (length-take-le a xs (omega arith)))
-    (take-append-seam ys (drop (a + length ys) xs))
 
 -- A loop that fills an array of n elements
 

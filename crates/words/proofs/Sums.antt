@@ -22,12 +22,12 @@ module _ (f : ℕ → ℕ) where
   sum-cut m zero = rw (add-zero m, add-zero (sum m f)) refl
   sum-cut m (suc k) = rw (add-suc, sum-cut m k) (omega arith)
 
-  pub sum-least : (n i : ℕ) → i < n → f i ≤ sum n f
+  sum-least : (n i : ℕ) → i < n → f i ≤ sum n f
   unfolding sum
   sum-least zero i h = let z : ⊥ = omega arith in absurd z
   sum-least (suc n) i h = ⊎-elim (λ (e : i ≡ n). rw e (omega arith)) (λ (l : i < n). omega (arith, sum-least n i l)) (last-or-below h)
 
-  pub sum-most : (n : ℕ) → ((i : ℕ) → i < n → f i ≤ 1) → sum n f ≤ n
+  sum-most : (n : ℕ) → ((i : ℕ) → i < n → f i ≤ 1) → sum n f ≤ n
   unfolding sum
   sum-most zero h = omega arith
   sum-most (suc n) h = omega (arith, sum-most n (λ i l. h i (omega arith)), h n (omega arith))
@@ -48,7 +48,7 @@ sum-window f g n a m h same = let e : n ≡ a + m + (n - (a + m)) = omega arith 
 
 -- Counts
 
-pub num-most : (t : Bool) → num t ≤ 1
+num-most : (t : Bool) → num t ≤ 1
 unfolding num
 num-most true = omega arith
 num-most false = omega arith

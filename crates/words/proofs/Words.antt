@@ -7,8 +7,8 @@ use native.Mathlib.Nat.{add-zero, div-one, div-div-eq-div-mul, mod-eq-of-lt}
 use native.Mathlib.Omega.{arith}
 use lib.ListN.{length, getD, set, length-set, List·getD-eq-default}
 use lib.Seq.{getD-set-same, getD-set-other, set-getD, ext-getD}
-use Rattle.words.proofs.Bounded.{below-or-above}
 use Rattle.words.specs.Words.{bits, word, putWord}
+use Rattle.words.proofs.Bounded.{below-or-above}
 
 -- each element is a byte
 abbrev pub Bytes : List ℕ → Type 0
@@ -134,12 +134,6 @@ getD-putWord-cong xs ys a v i n l same =
       four (k, h, e) = rw e (getD-putWord-same xs a v k h (omega arith) ∙ sym (getD-putWord-same ys a v k h (omega arith)))
 
 module _ (xs : List ℕ) (a u v : ℕ) where
-  -- the later of two stores at one place remains
-  pub putWord-twice : putWord (putWord xs a u) a v ≡ putWord xs a v
-  putWord-twice =
-      ext-getD 0 (putWord (putWord xs a u) a v) (putWord xs a v) (simp length-putWord)
-      (λ i l. getD-putWord-cong (putWord xs a u) xs a v i (length-putWord xs a u) (rw (length-putWord (putWord xs a u) a v) at l) (getD-putWord-other xs a u i))
-
   -- stores apart from each other commute
   pub putWord-comm : (j : ℕ) → (j < a + 4 → j + 4 ≤ a) → putWord (putWord xs a u) j v ≡ putWord (putWord xs j v) a u
   putWord-comm j o = ext-getD 0 (putWord (putWord xs a u) j v) (putWord (putWord xs j v) a u) (simp length-putWord) same where

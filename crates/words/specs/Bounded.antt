@@ -1,6 +1,7 @@
 -- Tests, sums and counts over the numbers below a bound. Plain mathematics.
 use mathlib.Core.Bool.{Bool, true, false, not, _&&_, _||_}
-use Prim.Native.Nat.{ℕ, zero, suc, _+_}
+use mathlib.Core.Path.{_≡_}
+use Prim.Native.Nat.{ℕ, zero, suc, _+_, _<_}
 use lib.Dec.{leb, ltb, eqb}
 
 -- a is above b
@@ -33,3 +34,8 @@ num false = 0
 -- how many numbers below n have p
 abbrev pub count : ℕ → (ℕ → Bool) → ℕ
 count n p = sum n (λ i. num (p i))
+
+-- r is v, and below m
+pub record Small (v m r : ℕ) : Type 0 where
+  pub is : r ≡ v
+  pub below : r < m

@@ -2,6 +2,7 @@
 ghost use mathlib.Core.Path.{_≡_};
 ghost use Prim.Native.Nat.{_+_, _*_, _^_, _<_, _≤_};
 ghost use lib.ListN.{length};
+ghost use Rattle.words.specs.Bounded.{among};
 ghost use Rattle.words.specs.Lists.{putList};
 ghost use Rattle.words.specs.Words.{bits, word, putWord};
 
@@ -49,4 +50,14 @@ pub fn put_bytes(s: &mut [u8], at: usize, bytes: &[u8])
     for i in 0..bytes.len() {
         s[at + i] = bytes[i];
     }
+}
+
+// b is one of the m numbers from p on.
+pub fn is_among(p: u32, m: u32, b: u32) -> bool
+    ensures { λ r. ⌜ r ≡ among p m b ⌝ }
+{
+    if b < p {
+        return false;
+    }
+    b - p < m
 }

@@ -1,6 +1,6 @@
 -- `words::bits` meets its contract: 1 shifted by less than a word's width is the power of two.
-use borrow.Author.Needs.{needs}
 use lib.Pow.{pow-pos}
+use borrow.Author.Needs.{needs}
 use Rattle.words.proofs.Fields.{one-shifted}
 use Rattle.words.proofs.bits.Statement.{statement}
 use Rattle.words.proofs.bits.Tie as tie

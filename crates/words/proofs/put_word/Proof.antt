@@ -1,9 +1,9 @@
 -- `words::put_word` meets its contract: its four stores are those of the definition.
-use lib.ListN.{length-set}
 use native.Mathlib.Omega.{arith}
-use Rattle.words.specs.Words.{putWord}
 use native.Mathlib.Nat.{div-one}
+use lib.ListN.{length-set}
 use borrow.Author.Needs.{needs}
+use Rattle.words.specs.Words.{putWord}
 use Rattle.words.proofs.put_word.Statement.{statement}
 use Rattle.words.proofs.put_word.Tie as tie
 

@@ -1,6 +1,6 @@
 -- `words::word` meets its contract: the four bytes are read and put together as the definition does.
-use Rattle.words.specs.Words.{word}
 use borrow.Author.Needs.{needs}
+use Rattle.words.specs.Words.{word}
 use Rattle.words.proofs.word.Statement.{statement}
 use Rattle.words.proofs.word.Tie as tie
 

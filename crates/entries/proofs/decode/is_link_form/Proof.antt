@@ -1,7 +1,7 @@
 -- `entries::decode::is_link_form` meets its contract: it makes the tests of the definition, in their order.
 use borrow.Author.Needs.{needs}
-use Rattle.entries.specs.Entries.{isLinkForm}
 use borrow.Author.Tests.{ne-eqb}
+use Rattle.entries.specs.Entries.{isLinkForm}
 use Rattle.entries.proofs.decode.is_link_form.Statement.{statement}
 use Rattle.entries.proofs.decode.is_link_form.Tie as tie
 

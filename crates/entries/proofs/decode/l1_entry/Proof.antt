@@ -1,6 +1,6 @@
 -- `entries::decode::l1_entry` meets its contract: its tests are those of the definition, in their order.
-use borrow.Author.Needs.{needs}
 use mathlib.Core.Path.{ap, ap₂, sym, _∙_}
+use borrow.Author.Needs.{needs}
 use borrow.Author.Tests.{ne-eqb}
 use Rattle.entries.specs.Entries.{l1Entry, link, section}
 use Rattle.entries.proofs.Decoding.{l1Entry-link, l1Entry-section}

@@ -1,6 +1,6 @@
 -- `entries::encode::link_word` meets its contract: it is the table's address and the form of a link.
-use borrow.Author.Needs.{needs}
 use mathlib.Core.Path.{refl}
+use borrow.Author.Needs.{needs}
 use Rattle.entries.specs.Written.{wordOf}
 use Rattle.entries.proofs.encode.link_word.Statement.{statement}
 use Rattle.entries.proofs.encode.link_word.Tie as tie

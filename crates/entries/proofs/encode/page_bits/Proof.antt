@@ -1,6 +1,6 @@
 -- `entries::encode::page_bits` meets its contract: its terms are those of the definition, and fill twelve bits at most.
-use borrow.Author.Needs.{needs}
 use native.Mathlib.Omega.{arith}
+use borrow.Author.Needs.{needs}
 use Rattle.entries.specs.Written.{pageBits}
 use Rattle.entries.proofs.encode.page_bits.Statement.{statement}
 use Rattle.entries.proofs.encode.page_bits.Tie as tie

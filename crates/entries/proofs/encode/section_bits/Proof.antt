@@ -1,6 +1,6 @@
 -- `entries::encode::section_bits` meets its contract: its terms are those of the definition, and fill eighteen bits at most.
-use borrow.Author.Needs.{needs}
 use native.Mathlib.Omega.{arith}
+use borrow.Author.Needs.{needs}
 use Rattle.entries.specs.Written.{sectionBits}
 use Rattle.entries.proofs.encode.section_bits.Statement.{statement}
 use Rattle.entries.proofs.encode.section_bits.Tie as tie

@@ -1,6 +1,6 @@
 -- `entries::encode::written_ap` meets its contract: its tests are those of the definition, in their order.
-use borrow.Author.Needs.{needs}
 use native.Mathlib.Omega.{arith}
+use borrow.Author.Needs.{needs}
 use borrow.Author.Tests.{ne-eqb}
 use Rattle.entries.proofs.encode.written_ap.Statement.{statement}
 use Rattle.entries.proofs.encode.written_ap.Tie as tie

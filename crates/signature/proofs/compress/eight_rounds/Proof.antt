@@ -1,8 +1,8 @@
 -- The invariant: j rounds are done.
 use mathlib.Core.Path.{_≡_, refl}
 use Prim.Native.Nat.{_≤_, _-_}
-use borrow.Author.Needs.{needs}
 use native.Mathlib.Omega.{arith}
+use borrow.Author.Needs.{needs}
 use Rattle.signature.specs.Sha256.{rounds}
 use Rattle.signature.proofs.Computation.{rounds-more}
 use Rattle.signature.proofs.compress.eight_rounds.Statement.{statement}

@@ -1,6 +1,6 @@
 -- The shift and the remainder are those of the definition.
-use borrow.Author.Needs.{needs}
 use mathlib.Core.Path.{refl}
+use borrow.Author.Needs.{needs}
 use Rattle.signature.specs.Sha256.{digestByte}
 use Rattle.signature.proofs.digest.digest_byte.Statement.{statement}
 use Rattle.signature.proofs.digest.digest_byte.Tie as tie

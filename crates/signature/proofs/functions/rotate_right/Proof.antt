@@ -1,6 +1,6 @@
 -- The shifts and the or are those of the definition.
-use borrow.Author.Needs.{needs}
 use mathlib.Core.Path.{refl}
+use borrow.Author.Needs.{needs}
 use Rattle.signature.specs.Sha256.{ROTR}
 use Rattle.signature.proofs.functions.rotate_right.Statement.{statement}
 use Rattle.signature.proofs.functions.rotate_right.Tie as tie

@@ -1,8 +1,8 @@
 -- The part that is lent is the block.
 use mathlib.Core.Path.{_≡_}
 use Prim.Native.Nat.{_+_, _-_}
-use borrow.Author.Needs.{needs}
 use native.Mathlib.Omega.{arith}
+use borrow.Author.Needs.{needs}
 use Rattle.words.specs.Lists.{part}
 use Rattle.signature.specs.Signed.{blockBytes}
 use Rattle.signature.proofs.golden.is_signed_at.Statement.{statement}

@@ -2,8 +2,8 @@
 use mathlib.Core.Path.{sym, _∙_, ap}
 use mathlib.Core.List.{List}
 use Prim.Native.Nat.{ℕ, _*_}
-use borrow.Author.Needs.{needs}
 use native.Mathlib.Omega.{arith}
+use borrow.Author.Needs.{needs}
 use Rattle.signature.specs.Sha256.{schedule}
 use Rattle.signature.proofs.Padded.{length-padded, part-padded}
 use Rattle.signature.proofs.padding.block_schedule.Statement.{statement}

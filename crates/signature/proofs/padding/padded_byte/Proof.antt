@@ -1,7 +1,7 @@
 -- Each case is a law of the padded message.
 use mathlib.Core.Path.{sym, _∙_}
-use borrow.Author.Needs.{needs}
 use native.Mathlib.Omega.{arith}
+use borrow.Author.Needs.{needs}
 use Rattle.signature.proofs.Padded.{length-padded, padded-message, padded-one, padded-zero, padded-length}
 use Rattle.signature.proofs.padding.padded_byte.Statement.{statement}
 use Rattle.signature.proofs.padding.padded_byte.Tie as tie

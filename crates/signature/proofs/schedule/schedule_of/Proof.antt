@@ -1,7 +1,7 @@
 -- The invariant: the array is filled with the first t words of the schedule.
 use Prim.Native.Nat.{_≤_, _-_}
-use borrow.Author.Needs.{needs}
 use native.Mathlib.Omega.{arith}
+use borrow.Author.Needs.{needs}
 use Rattle.words.proofs.Lists.{Filling, filling-ends}
 use Rattle.signature.specs.Sha256.{schedule}
 use Rattle.signature.proofs.Computation.{schedule-turn-next}

@@ -1,8 +1,8 @@
--- `entries::decode::may_write` meets its contract: it makes the test of the definition.
+-- `entries::rights::may_write` meets its contract: it makes the test of the definition.
 use mathlib.Core.Path.{refl}
 use Rattle.entries.specs.Rights.{mayWrite}
-use Rattle.entries.proofs.decode.may_write.Statement.{statement}
-use Rattle.entries.proofs.decode.may_write.Tie as tie
+use Rattle.entries.proofs.rights.may_write.Statement.{statement}
+use Rattle.entries.proofs.rights.may_write.Tie as tie
 
 returns : tie.Need-returns
 unfolding mayWrite

@@ -1,8 +1,8 @@
--- `entries::decode::number` meets its contract: both cases are clauses of the definition.
-use Rattle.words.specs.Bounded.{num}
+-- `entries::rights::number` meets its contract: both cases are clauses of the definition.
 use native.Mathlib.Omega.{arith}
-use Rattle.entries.proofs.decode.number.Statement.{statement}
-use Rattle.entries.proofs.decode.number.Tie as tie
+use Rattle.words.specs.Bounded.{num}
+use Rattle.entries.proofs.rights.number.Statement.{statement}
+use Rattle.entries.proofs.rights.number.Tie as tie
 
 returns : tie.Need-returns
 unfolding num

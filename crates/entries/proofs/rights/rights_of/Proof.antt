@@ -1,8 +1,8 @@
--- `entries::decode::rights_of` meets its contract: its terms are those of the definition.
+-- `entries::rights::rights_of` meets its contract: its terms are those of the definition.
 use borrow.Author.Needs.{needs}
 use Rattle.entries.specs.Rights.{rightsOf}
-use Rattle.entries.proofs.decode.rights_of.Statement.{statement}
-use Rattle.entries.proofs.decode.rights_of.Tie as tie
+use Rattle.entries.proofs.rights.rights_of.Statement.{statement}
+use Rattle.entries.proofs.rights.rights_of.Tie as tie
 
 returns : tie.Need-returns
 unfolding rightsOf

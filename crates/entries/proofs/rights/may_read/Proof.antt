@@ -1,8 +1,8 @@
--- `entries::decode::may_read` meets its contract: each arm is one of the tests of the definition.
-use Rattle.entries.specs.Rights.{mayRead}
+-- `entries::rights::may_read` meets its contract: each arm is one of the tests of the definition.
 use borrow.Author.Tests.{ne-eqb}
-use Rattle.entries.proofs.decode.may_read.Statement.{statement}
-use Rattle.entries.proofs.decode.may_read.Tie as tie
+use Rattle.entries.specs.Rights.{mayRead}
+use Rattle.entries.proofs.rights.may_read.Statement.{statement}
+use Rattle.entries.proofs.rights.may_read.Tie as tie
 
 returns : tie.Need-returns
 unfolding mayRead

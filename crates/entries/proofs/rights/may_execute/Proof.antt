@@ -1,8 +1,8 @@
--- `entries::decode::may_execute` meets its contract: without read the definition is false, with read it is the test of XN.
+-- `entries::rights::may_execute` meets its contract: without read the definition is false, with read it is the test of XN.
 use borrow.Author.Needs.{needs}
 use Rattle.entries.specs.Rights.{mayExecute}
-use Rattle.entries.proofs.decode.may_execute.Statement.{statement}
-use Rattle.entries.proofs.decode.may_execute.Tie as tie
+use Rattle.entries.proofs.rights.may_execute.Statement.{statement}
+use Rattle.entries.proofs.rights.may_execute.Tie as tie
 
 returns : tie.Need-returns
 unfolding mayExecute
