@@ -1,5 +1,5 @@
--- Laws of counters: changing word by word what one entry gives is recounting the whole ledger with that entry.
-use mathlib.Core.Bool.{Bool, true, false, cond, _||_, false≢true}
+-- Laws of counters: changing word by word what entries give, once to each of adjacent blocks, is recounting the whole ledger with them.
+use mathlib.Core.Bool.{Bool, true, false, cond, _&&_, _||_, and-false}
 use mathlib.Core.List.{List}
 use mathlib.Core.Logic.{_≢_, ⊎-elim}
 use mathlib.Core.Path.{_≡_, refl, sym, _∙_, ap}
@@ -10,19 +10,21 @@ use native.Mathlib.Omega.{arith}
 use lib.Dec.{leb, ltb}
 use lib.ListN.{length}
 use borrow.Author.Tests.{lt-ltb, le-ltb, le-leb, lt-leb, ltb-true, ltb-false}
-use Rattle.words.specs.Bounded.{above, any, sum}
+use Rattle.words.specs.Bounded.{above, among, any, num, sum}
 use Rattle.words.specs.Words.{word}
-use Rattle.words.proofs.Bounded.{both-ways, below-or-above, last-or-below, window-or-outside, false-unless, and-true-left, and-true-right, or-false-left, any-none, any-hit, any-found, and-false-right}
+use Rattle.words.proofs.Bounded.{both-ways, below-or-above, last-or-below, window-or-outside, true-unless, and-true, and-true-left, and-true-right, or-false-left, among-in, among-out, among-within, any-none, any-hit, any-found, and-false-right}
 use Rattle.words.proofs.Words.{Bytes, bytes-putWord}
-use Rattle.entries.specs.Entries.{Entry, first, size}
-use Rattle.rules.specs.Store.{ledgerHeadBytes, ledgerRecordBytes, basePlace, counterLimit, Store, blocks, base, recordWord, putRecordWord, typeWord, Counter, writable, executable, linked, counterWord, someCounter, counter, someBlock, outside, misfit, lent}
+use Rattle.entries.specs.Entries.{Entry, coverFirst, coverBlocks, covers}
+use Rattle.rules.specs.Store.{ledgerHeadBytes, ledgerRecordBytes, basePlace, counterLimit, Store, blocks, base, recordWord, putRecordWord, typeWord, Counter, writable, executable, linked, counterWord, someCounter, counter, someBlock, misfit, lent}
 use Rattle.rules.specs.Tables.{grants, gives, gain, astray}
 use Rattle.rules.specs.General.{Change, added, removed, endValue, endsBelow, overruns, someOverrun, recounted}
-use Rattle.rules.proofs.Gains.{gives-within, gives-at, grants-size, gain-most, gain-hit, gain-none, gain-found}
+use Rattle.rules.proofs.Gains.{grants-place, gain-none}
 use Rattle.rules.proofs.Ledger.{InRecord, counter-in-record, counter-not-type, length-putRecordWord, head-putRecordWord, recordWord-put-same, recordWord-put-other}
-use Rattle.rules.proofs.State.{fits, within, no-counter, some-counter-found, some-counter-hit}
+use Rattle.rules.proofs.State.{fits, within, inside, no-counter, some-counter-found, some-counter-hit}
 use Rattle.rules.proofs.Changes.{counter-at, end, length-recounted, head-recounted, type-recounted, counter-recounted}
-use Rattle.ledger.specs.Counters.{Changeable, recordOf, Placed, Countable, counterOverruns, changed, changedCounter}
+use Rattle.rules.proofs.Walk.{cover-within}
+use Rattle.ledger.specs.Counters.{Spreads, counterOverruns, changed, changedCounter}
+use Rattle.ledger.specs.Needs.{Changeable, recordOf, GrantsInside, GrantsRecorded, Countable}
 use Rattle.ledger.proofs.Records.{recordWord-bound, bytes-recount, ledger-ext}
 
 -- One counter
@@ -43,7 +45,7 @@ pub overruns-removed : (old : ℕ) → old ≢ 0 → ltb counterLimit (old - 1) 
 unfolding overruns endsBelow endValue
 overruns-removed old h = rw (le-ltb old 1 (omega arith))
 
-pub changeable : (d : Change) (old : ℕ) → overruns d old 1 ≡ false → Changeable d old
+changeable : (d : Change) (old : ℕ) → overruns d old 1 ≡ false → Changeable d old
 unfolding overruns endsBelow endValue
 changeable added old e = let l = ltb-false counterLimit (old + 1) e in omega arith
 changeable removed old e = let l = ltb-false old 1 (or-false-left (ltb old 1) (ltb counterLimit (old - 1)) e) in omega arith
@@ -63,49 +65,68 @@ unfolding endValue
 changeable-bound added old b h = h
 changeable-bound removed old b h = omega arith
 
--- what one entry gives
-module _ (c : Counter) (e : Entry) (p : ℕ) where
-  gain-one : gives c e p ≡ true → gain 1 (λ k. e) c p ≡ 1
-  gain-one g = let most = gain-most 1 (λ k. e) c p in let hit = gain-hit 1 (λ k. e) c p 0 (omega arith) g in omega arith
+-- The m blocks from p on, to each of which the n entries x give what e grants
 
-  gain-zero : gives c e p ≡ false → gain 1 (λ k. e) c p ≡ 0
-  gain-zero g = gain-none 1 (λ k. e) c p (λ i l. g)
+module _ {n : ℕ} {x : ℕ → Entry} {e : Entry} {p m : ℕ} (spreads : Spreads n x e p m) (c : Counter) (q : ℕ) where
+  gain-one : grants c e ≡ true → p ≤ q → q < p + m → gain n x c q ≡ 1
+  unfolding num
+  gain-one g lo hi = spreads .gains c q ∙ rw (g, among-in p m q lo hi) refl
 
--- Overruns of one entry
+  gain-ungranted : grants c e ≡ false → gain n x c q ≡ 0
+  unfolding num
+  gain-ungranted g = spreads .gains c q ∙ rw g refl
 
-module _ (d : Change) (s : Store) (e : Entry) (length-is : length (s .ledger) ≡ ledgerHeadBytes + ledgerRecordBytes * blocks s) (placed : Placed (s .ledger) e) where
+  gain-outside : (p ≤ q → p + m ≤ q) → gain n x c q ≡ 0
+  unfolding num
+  gain-outside o = spreads .gains c q ∙ rw (among-out p m q o, and-false (grants c e)) refl
+
+  gain-given : 0 < gain n x c q → (grants c e ≡ true) × (p ≤ q) × (q < p + m)
+  unfolding num
+  gain-given h =
+      let t : (grants c e && among p m q) ≡ true = true-unless (grants c e && among p m q) (λ f. omega (arith, spreads .gains c q ∙ ap num f)) in
+      let (g, inside) = and-true (grants c e) (among p m q) t in
+      let (lo, hi) = among-within p m q inside in
+      (g, lo, hi)
+
+-- an entry gives what it grants to the blocks that it covers
+pub entry-spreads : (e : Entry) → Spreads 1 (λ k. e) e (coverFirst e) (coverBlocks e)
+unfolding gain sum gives covers
+entry-spreads e = record { gains = λ c q. omega arith }
+
+-- Overruns
+
+module _ (d : Change) (s : Store) {n : ℕ} {x : ℕ → Entry} {e : Entry} {p m : ℕ} (spreads : Spreads n x e p m)
+    (length-is : length (s .ledger) ≡ ledgerHeadBytes + ledgerRecordBytes * blocks s) (recorded-all : GrantsRecorded (s .ledger) e p m) where
   abbrev at : Counter → ℕ → Bool
   at c b = overruns d (recordWord (s .ledger) (counterWord c) b) 1
 
   abbrev region : ℕ → Bool
-  region b = someCounter (λ c. overruns d (counter c s (base s + b)) (gain 1 (λ k. e) c (base s + b)))
+  region b = someCounter (λ c. overruns d (counter c s (base s + b)) (gain n x c (base s + b)))
 
-  -- "13": an entry overruns some counter of the region exactly if it overruns a counter by which it counts
-  pub overruns-entry : someCounter (λ c. counterOverruns d (s .ledger) c e) ≡ someOverrun d s 1 (λ k. e)
+  -- "13": the entries overrun some counter of the region exactly if one does that e grants, on one of these blocks
+  overruns-blocks : someCounter (λ c. counterOverruns d (s .ledger) c e p m) ≡ someOverrun d s n x
   unfolding counterOverruns someOverrun someBlock
-  overruns-entry = both-ways _ _ there back where
-    there : someCounter (λ c. counterOverruns d (s .ledger) c e) ≡ true → any (blocks s) region ≡ true
+  overruns-blocks = both-ways _ _ there back where
+    there : someCounter (λ c. counterOverruns d (s .ledger) c e p m) ≡ true → any (blocks s) region ≡ true
     there h =
-        let (c, t) = some-counter-found (λ c. counterOverruns d (s .ledger) c e) h in
-        let scan = any (size e) (λ i. at c (recordOf (s .ledger) e + i)) in
+        let (c, t) = some-counter-found (λ c. counterOverruns d (s .ledger) c e p m) h in
+        let scan = any m (λ i. at c (recordOf (s .ledger) p + i)) in
         let g = and-true-left (grants c e) scan t in
-        let (i, l, o) = any-found (λ i. at c (recordOf (s .ledger) e + i)) (size e) (and-true-right (grants c e) scan t) in
-        let (lo, hi) = placed c g in
-        let b = recordOf (s .ledger) e + i in
-        let one = gain-one c e (base s + b) (gives-at c e (base s + b) g (omega arith) (omega arith)) in
+        let (i, l, o) = any-found (λ i. at c (recordOf (s .ledger) p + i)) m (and-true-right (grants c e) scan t) in
+        let (lo, hi) = recorded-all c g in
+        let b = recordOf (s .ledger) p + i in
+        let one = gain-one spreads c (base s + b) g (omega arith) (omega arith) in
         any-hit region (blocks s) b (omega arith)
-        (some-counter-hit (λ c. overruns d (counter c s (base s + b)) (gain 1 (λ k. e) c (base s + b))) c (rw (counter-at c s b, one) o))
+        (some-counter-hit (λ c. overruns d (counter c s (base s + b)) (gain n x c (base s + b))) c (rw (counter-at c s b, one) o))
 
-    back : any (blocks s) region ≡ true → someCounter (λ c. counterOverruns d (s .ledger) c e) ≡ true
+    back : any (blocks s) region ≡ true → someCounter (λ c. counterOverruns d (s .ledger) c e p m) ≡ true
     back h =
         let (b, l, t) = any-found region (blocks s) h in
-        let (c, o) = some-counter-found (λ c. overruns d (counter c s (base s + b)) (gain 1 (λ k. e) c (base s + b))) t in
-        let some = overruns-some d (counter c s (base s + b)) (gain 1 (λ k. e) c (base s + b)) o in
-        let g = gain-found 1 (λ k. e) c (base s + b) some .2 in
-        let (grant, lo, hi) = gives-within c e (base s + b) g in
-        let is : recordOf (s .ledger) e + (base s + b - first e) ≡ b = omega (arith, placed c grant .0) in
-        let hit : at c (recordOf (s .ledger) e + (base s + b - first e)) ≡ true = rw is (rw (counter-at c s b, gain-one c e (base s + b) g) at o) in
-        some-counter-hit (λ c. counterOverruns d (s .ledger) c e) c (rw grant (any-hit (λ i. at c (recordOf (s .ledger) e + i)) (size e) (base s + b - first e) (omega arith) hit))
+        let (c, o) = some-counter-found (λ c. overruns d (counter c s (base s + b)) (gain n x c (base s + b))) t in
+        let (g, lo, hi) = gain-given spreads c (base s + b) (overruns-some d (counter c s (base s + b)) (gain n x c (base s + b)) o) in
+        let is : recordOf (s .ledger) p + (base s + b - p) ≡ b = omega (arith, recorded-all c g .0) in
+        let hit : at c (recordOf (s .ledger) p + (base s + b - p)) ≡ true = rw is (rw (counter-at c s b, gain-one spreads c (base s + b) g lo hi) at o) in
+        some-counter-hit (λ c. counterOverruns d (s .ledger) c e p m) c (rw g (any-hit (λ i. at c (recordOf (s .ledger) p + i)) m (base s + b - p) (omega arith) hit))
 
 -- Adjacent records
 
@@ -119,11 +140,11 @@ module _ (d : Change) (led : List ℕ) (k b : ℕ) where
   pub length-changed : (m : ℕ) → length (changed d led k b m) ≡ length led
   length-changed m = changed-keeps length m (λ l j v lo hi. length-putRecordWord l k j v)
 
-  pub head-changed : (m a : ℕ) → a + 4 ≤ ledgerHeadBytes → word (changed d led k b m) a ≡ word led a
+  head-changed : (m a : ℕ) → a + 4 ≤ ledgerHeadBytes → word (changed d led k b m) a ≡ word led a
   head-changed m a h = changed-keeps (λ l. word l a) m (λ l j v lo hi. head-putRecordWord l k j v a h)
 
   -- a word of another record, or another word of these
-  pub recordWord-changed-other : (m j i : ℕ) → InRecord k → InRecord j → (b ≤ i → i < b + m → k ≢ j) → recordWord (changed d led k b m) j i ≡ recordWord led j i
+  recordWord-changed-other : (m j i : ℕ) → InRecord k → InRecord j → (b ≤ i → i < b + m → k ≢ j) → recordWord (changed d led k b m) j i ≡ recordWord led j i
   recordWord-changed-other m j i ik ij o = changed-keeps (λ l. recordWord l j i) m (λ l x v lo hi. recordWord-put-other l k x v j i ik ij (λ e. o (omega arith) (omega arith)))
 
   -- the turn of the loop that changes them: the next word is as it was, and is then changed
@@ -157,60 +178,61 @@ recordWord-changed d led k b (suc m) n j ik h e f all lo hi =
     ∙ recordWord-changed d led k b m n j ik h e (omega arith) (λ i l. all i (omega arith)) lo l)
     (last-or-below {i = j} {n = b + m} (omega arith))
 
--- One counter of an entry
+-- One counter that an entry grants
 
-module _ (d : Change) (led : List ℕ) (c : Counter) (e : Entry) where
-  counter-keeps : {A : Type 0} (P : List ℕ → A) → P (changed d led (counterWord c) (recordOf led e) (size e)) ≡ P led → P (changedCounter d led c e) ≡ P led
+module _ (d : Change) (led : List ℕ) (c : Counter) (e : Entry) (p m : ℕ) where
+  counter-keeps : {A : Type 0} (P : List ℕ → A) → P (changed d led (counterWord c) (recordOf led p) m) ≡ P led → P (changedCounter d led c e p m) ≡ P led
   unfolding changedCounter
   counter-keeps P h = go (grants c e) where
-    go : (t : Bool) → P (cond t (changed d led (counterWord c) (recordOf led e) (size e)) led) ≡ P led
+    go : (t : Bool) → P (cond t (changed d led (counterWord c) (recordOf led p) m) led) ≡ P led
     go true = h
     go false = refl
 
-  pub length-changedCounter : length (changedCounter d led c e) ≡ length led
-  length-changedCounter = counter-keeps length (length-changed d led (counterWord c) (recordOf led e) (size e))
+  length-changedCounter : length (changedCounter d led c e p m) ≡ length led
+  length-changedCounter = counter-keeps length (length-changed d led (counterWord c) (recordOf led p) m)
 
-  pub head-changedCounter : (a : ℕ) → a + 4 ≤ ledgerHeadBytes → word (changedCounter d led c e) a ≡ word led a
-  head-changedCounter a h = counter-keeps (λ l. word l a) (head-changed d led (counterWord c) (recordOf led e) (size e) a h)
+  head-changedCounter : (a : ℕ) → a + 4 ≤ ledgerHeadBytes → word (changedCounter d led c e p m) a ≡ word led a
+  head-changedCounter a h = counter-keeps (λ l. word l a) (head-changed d led (counterWord c) (recordOf led p) m a h)
 
   -- every other word of a record
-  pub other-changedCounter : (k b : ℕ) → InRecord k → counterWord c ≢ k → recordWord (changedCounter d led c e) k b ≡ recordWord led k b
-  other-changedCounter k b ik o = counter-keeps (λ l. recordWord l k b) (recordWord-changed-other d led (counterWord c) (recordOf led e) (size e) k b (counter-in-record c) ik (λ lo hi. o))
+  other-changedCounter : (k b : ℕ) → InRecord k → counterWord c ≢ k → recordWord (changedCounter d led c e p m) k b ≡ recordWord led k b
+  other-changedCounter k b ik o = counter-keeps (λ l. recordWord l k b) (recordWord-changed-other d led (counterWord c) (recordOf led p) m k b (counter-in-record c) ik (λ lo hi. o))
 
-  bytes-changedCounter : Bytes led → Bytes (changedCounter d led c e)
+  bytes-changedCounter : Bytes led → Bytes (changedCounter d led c e p m)
   unfolding changedCounter
   bytes-changedCounter h = go (grants c e) where
-    go : (t : Bool) → Bytes (cond t (changed d led (counterWord c) (recordOf led e) (size e)) led)
-    go true = bytes-changed d led (counterWord c) (recordOf led e) (size e) h
+    go : (t : Bool) → Bytes (cond t (changed d led (counterWord c) (recordOf led p) m) led)
+    go true = bytes-changed d led (counterWord c) (recordOf led p) m h
     go false = h
 
   -- the counter itself
-  own-changedCounter : (n j : ℕ) → Bytes led → length led ≡ ledgerHeadBytes + ledgerRecordBytes * n → Placed led e → Countable d led c e → j < n
-      → recordWord (changedCounter d led c e) (counterWord c) j ≡ endValue d (recordWord led (counterWord c) j) (gain 1 (λ k. e) c (word led basePlace + j))
+  own-changedCounter : {k : ℕ} {x : ℕ → Entry} → Spreads k x e p m → (n j : ℕ) → Bytes led → length led ≡ ledgerHeadBytes + ledgerRecordBytes * n → GrantsRecorded led e p m
+      → Countable d led c e p m → j < n
+      → recordWord (changedCounter d led c e p m) (counterWord c) j ≡ endValue d (recordWord led (counterWord c) j) (gain k x c (word led basePlace + j))
   unfolding changedCounter
-  own-changedCounter n j h l placed countable small = go (grants c e) refl where
+  own-changedCounter {k} {x} spreads n j h l recorded-all countable small = go (grants c e) refl where
     old : ℕ
     old = recordWord led (counterWord c) j
 
-    spared : gives c e (word led basePlace + j) ≡ false → old ≡ endValue d old (gain 1 (λ k. e) c (word led basePlace + j))
-    spared g = rw (gain-zero c e (word led basePlace + j) g) (sym (endValue-none d old))
+    spared : gain k x c (word led basePlace + j) ≡ 0 → old ≡ endValue d old (gain k x c (word led basePlace + j))
+    spared none = rw none (sym (endValue-none d old))
 
-    go : (t : Bool) → grants c e ≡ t → recordWord (cond t (changed d led (counterWord c) (recordOf led e) (size e)) led) (counterWord c) j ≡ endValue d old (gain 1 (λ k. e) c (word led basePlace + j))
+    go : (t : Bool) → grants c e ≡ t → recordWord (cond t (changed d led (counterWord c) (recordOf led p) m) led) (counterWord c) j ≡ endValue d old (gain k x c (word led basePlace + j))
     go true g =
-        let (lo, hi) = placed c g in
+        let (lo, hi) = recorded-all c g in
         ⊎-elim
-        (λ (w : (recordOf led e ≤ j) × (j < recordOf led e + size e)).
-        rw (gain-one c e (word led basePlace + j) (gives-at c e (word led basePlace + j) g (omega arith) (omega arith)))
-        (recordWord-changed d led (counterWord c) (recordOf led e) (size e) n j (counter-in-record c) h l (omega arith) (countable g) (w .0) (w .1)))
-        (λ (o : recordOf led e ≤ j → recordOf led e + size e ≤ j).
-        recordWord-changed-other d led (counterWord c) (recordOf led e) (size e) (counterWord c) j (counter-in-record c) (counter-in-record c) (λ a b _. omega (arith, o a))
-        ∙ spared (false-unless (gives c e (word led basePlace + j)) (λ t. let (_, a, b) = gives-within c e (word led basePlace + j) t in omega (arith, o (omega arith)))))
-        (window-or-outside j (recordOf led e) (size e))
-    go false g = spared (false-unless (gives c e (word led basePlace + j)) (λ t. false≢true (sym g ∙ gives-within c e (word led basePlace + j) t .0)))
+        (λ (w : (recordOf led p ≤ j) × (j < recordOf led p + m)).
+        rw (gain-one spreads c (word led basePlace + j) g (omega arith) (omega arith))
+        (recordWord-changed d led (counterWord c) (recordOf led p) m n j (counter-in-record c) h l (omega arith) (countable g) (w .0) (w .1)))
+        (λ (o : recordOf led p ≤ j → recordOf led p + m ≤ j).
+        recordWord-changed-other d led (counterWord c) (recordOf led p) m (counterWord c) j (counter-in-record c) (counter-in-record c) (λ a b _. omega (arith, o a))
+        ∙ spared (gain-outside spreads c (word led basePlace + j) (λ a. omega (arith, o (omega arith)))))
+        (window-or-outside j (recordOf led p) m)
+    go false g = spared (gain-ungranted spreads c (word led basePlace + j) g)
 
--- All counters of an entry
+-- All that it grants
 
-module _ (d : Change) (s : Store) (length-is : length (s .ledger) ≡ ledgerHeadBytes + ledgerRecordBytes * blocks s) (bytes : Bytes (s .ledger)) (e : Entry) where
+module _ (d : Change) (s : Store) (length-is : length (s .ledger) ≡ ledgerHeadBytes + ledgerRecordBytes * blocks s) (bytes : Bytes (s .ledger)) (e : Entry) (p m : ℕ) where
   -- a ledger that differs from the store's in counters only
   record Reached (led : List ℕ) : Type 0 where
     lengths : length led ≡ length (s .ledger)
@@ -222,40 +244,34 @@ module _ (d : Change) (s : Store) (length-is : length (s .ledger) ≡ ledgerHead
   abbrev Keeps : Counter → List ℕ → Type 0
   Keeps c led = (b : ℕ) → recordWord led (counterWord c) b ≡ recordWord (s .ledger) (counterWord c) b
 
-  reach : {led : List ℕ} (c : Counter) → Reached led → Reached (changedCounter d led c e)
+  reach : {led : List ℕ} (c : Counter) → Reached led → Reached (changedCounter d led c e p m)
   reach {led} c r = record {
-    lengths = length-changedCounter d led c e ∙ r .lengths;
-    heads = λ a h. head-changedCounter d led c e a h ∙ r .heads a h;
-    types = λ b. other-changedCounter d led c e typeWord b (omega arith) (λ q. counter-not-type c (sym q)) ∙ r .types b;
-    all-bytes = bytes-changedCounter d led c e (r .all-bytes);
+    lengths = length-changedCounter d led c e p m ∙ r .lengths;
+    heads = λ a h. head-changedCounter d led c e p m a h ∙ r .heads a h;
+    types = λ b. other-changedCounter d led c e p m typeWord b (omega arith) (λ q. counter-not-type c (sym q)) ∙ r .types b;
+    all-bytes = bytes-changedCounter d led c e p m (r .all-bytes);
   }
 
-  module _ (placed : Placed (s .ledger) e) (countable : (c : Counter) → Countable d (s .ledger) c e) where
+  module _ (recorded-all : GrantsRecorded (s .ledger) e p m) (countable : (c : Counter) → Countable d (s .ledger) c e p m) where
     -- what the change of a counter asks of the ledger reached
-    ready : {led : List ℕ} (c : Counter) → Reached led → Keeps c led → Placed led e × Countable d led c e
+    ready : {led : List ℕ} (c : Counter) → Reached led → Keeps c led → GrantsRecorded led e p m × Countable d led c e p m
     ready {led} c r same = (
-      λ k g. let (lo, hi) = placed k g in rw (r .heads basePlace (omega arith)) (omega (arith, lo), omega (arith, hi, r .lengths)),
-      λ g i l. rw (r .heads basePlace (omega arith), same (recordOf (s .ledger) e + i)) (countable c g i l),
+      λ k g. let (lo, hi) = recorded-all k g in rw (r .heads basePlace (omega arith)) (omega (arith, lo), omega (arith, hi, r .lengths)),
+      λ g i l. rw (r .heads basePlace (omega arith), same (recordOf (s .ledger) p + i)) (countable c g i l),
     )
 
-    -- and what it makes of it
-    made : {led : List ℕ} (c : Counter) → Reached led → Keeps c led → (b : ℕ) → b < blocks s → recordWord (changedCounter d led c e) (counterWord c) b ≡ end d s 1 (λ k. e) c b
-    made {led} c r same b l =
-        let (p, q) = ready c r same in
-        rw (same b, r .heads basePlace (omega arith)) at (own-changedCounter d led c e (blocks s) b (r .all-bytes) (r .lengths ∙ length-is) p q l)
-
     abbrev led1 : List ℕ
-    led1 = changedCounter d (s .ledger) writable e
+    led1 = changedCounter d (s .ledger) writable e p m
 
     abbrev led2 : List ℕ
-    led2 = changedCounter d led1 executable e
+    led2 = changedCounter d led1 executable e p m
 
     abbrev led3 : List ℕ
-    led3 = changedCounter d led2 linked e
+    led3 = changedCounter d led2 linked e p m
 
     -- a counter passes over the change of another
-    passes : (led : List ℕ) (c o : Counter) → counterWord o ≢ counterWord c → (b : ℕ) → recordWord (changedCounter d led o e) (counterWord c) b ≡ recordWord led (counterWord c) b
-    passes led c o h b = other-changedCounter d led o e (counterWord c) b (counter-in-record c) h
+    passes : (led : List ℕ) (c o : Counter) → counterWord o ≢ counterWord c → (b : ℕ) → recordWord (changedCounter d led o e p m) (counterWord c) b ≡ recordWord led (counterWord c) b
+    passes led c o h b = other-changedCounter d led o e p m (counterWord c) b (counter-in-record c) h
 
     reached0 : Reached (s .ledger)
     reached0 = record { lengths = refl; heads = λ a h. refl; types = λ b. refl; all-bytes = bytes }
@@ -272,67 +288,75 @@ module _ (d : Change) (s : Store) (length-is : length (s .ledger) ≡ ledgerHead
     keeps2 : Keeps linked led2
     keeps2 b = passes led1 linked executable (λ q. omega arith) b ∙ passes (s .ledger) linked writable (λ q. omega arith) b
 
-    pub ready-executable : Placed led1 e × Countable d led1 executable e
+    ready-executable : GrantsRecorded led1 e p m × Countable d led1 executable e p m
     ready-executable = ready executable reached1 keeps1
 
-    pub ready-linked : Placed led2 e × Countable d led2 linked e
+    ready-linked : GrantsRecorded led2 e p m × Countable d led2 linked e p m
     ready-linked = ready linked reached2 keeps2
 
-    ends : (c : Counter) (b : ℕ) → b < blocks s → recordWord led3 (counterWord c) b ≡ end d s 1 (λ k. e) c b
-    ends writable b l = passes led2 writable linked (λ q. omega arith) b ∙ passes led1 writable executable (λ q. omega arith) b ∙ made writable reached0 (λ b. refl) b l
-    ends executable b l = passes led2 executable linked (λ q. omega arith) b ∙ made executable reached1 keeps1 b l
-    ends linked b l = made linked reached2 keeps2 b l
+    module _ {n : ℕ} {x : ℕ → Entry} (spreads : Spreads n x e p m) where
+      -- what the change of a counter makes of it
+      made : {led : List ℕ} (c : Counter) → Reached led → Keeps c led → (b : ℕ) → b < blocks s → recordWord (changedCounter d led c e p m) (counterWord c) b ≡ end d s n x c b
+      made {led} c r same b l =
+          let (q, t) = ready c r same in
+          rw (same b, r .heads basePlace (omega arith)) at (own-changedCounter d led c e p m spreads (blocks s) b (r .all-bytes) (r .lengths ∙ length-is) q t l)
 
-    end-bound : (c : Counter) (b : ℕ) → b < blocks s → end d s 1 (λ k. e) c b < 2 ^ 32
-    end-bound c b l = rw (← ends c b l) (recordWord-bound led3 (counterWord c) b (reach linked reached2 .all-bytes))
+      ends : (c : Counter) (b : ℕ) → b < blocks s → recordWord led3 (counterWord c) b ≡ end d s n x c b
+      ends writable b l = passes led2 writable linked (λ q. omega arith) b ∙ passes led1 writable executable (λ q. omega arith) b ∙ made writable reached0 (λ b. refl) b l
+      ends executable b l = passes led2 executable linked (λ q. omega arith) b ∙ made executable reached1 keeps1 b l
+      ends linked b l = made linked reached2 keeps2 b l
 
-    -- changing its counters one after the other recounts the ledger with the entry
-    pub changed-recounted : led3 ≡ recounted d s 1 (λ k. e)
-    changed-recounted =
-        let r = reach linked reached2 in
-        let one : ℕ → Entry = λ k. e in
-        ledger-ext led3 (recounted d s 1 one) (blocks s) (r .lengths ∙ length-is) (length-recounted d s 1 one ∙ length-is)
-        (r .all-bytes) (bytes-recount (s .ledger) (blocks s) (end d s 1 one) bytes)
-        (λ a h. r .heads a h ∙ sym (head-recounted d s 1 one a h))
-        (λ b l. r .types b ∙ sym (type-recounted d s 1 one b))
-        (λ c b l. ends c b l ∙ sym (counter-recounted d s 1 one length-is c b l (end-bound c b l)))
+      end-bound : (c : Counter) (b : ℕ) → b < blocks s → end d s n x c b < 2 ^ 32
+      end-bound c b l = rw (← ends c b l) (recordWord-bound led3 (counterWord c) b (reach linked reached2 .all-bytes))
 
--- What the tests of a call say of an entry
+      -- changing the counters one after the other recounts the ledger with the entries
+      changed-recounted : led3 ≡ recounted d s n x
+      changed-recounted =
+          let r = reach linked reached2 in
+          ledger-ext led3 (recounted d s n x) (blocks s) (r .lengths ∙ length-is) (length-recounted d s n x ∙ length-is)
+          (r .all-bytes) (bytes-recount (s .ledger) (blocks s) (end d s n x) bytes)
+          (λ a h. r .heads a h ∙ sym (head-recounted d s n x a h))
+          (λ b l. r .types b ∙ sym (type-recounted d s n x b))
+          (λ c b l. ends c b l ∙ sym (counter-recounted d s n x length-is c b l (end-bound c b l)))
+
+-- What the tests of a call say
 
 -- 1 and 10 do not apply
-pub placed : (s : Store) (e : Entry) → misfit s (base s) ≡ false → astray (base s) (blocks s) e ≡ false → Placed (s .ledger) e
-unfolding astray
-placed s e t u c g =
+pub recorded-inside : (s : Store) (e : Entry) (p m : ℕ) → misfit s (base s) ≡ false → GrantsInside (s .memory) (s .ledger) e p m → GrantsRecorded (s .ledger) e p m
+recorded-inside s e p m t inside c g =
     let fit = fits s (base s) t in
-    let inside = and-false-right (above (size e) 0) (outside (base s) (blocks s) (first e) (size e)) u (lt-ltb 0 (size e) (grants-size c e g)) in
-    let (lo, hi) = within (base s) (blocks s) (first e) (size e) inside in
+    let (lo, hi) = within (base s) (blocks s) p m (inside c g) in
     (lo, omega arith)
 
+-- an entry whose place is in the region grants nothing outside
+pub entry-inside : (s : Store) (e : Entry) → astray (base s) (blocks s) e ≡ false → GrantsInside (s .memory) (s .ledger) e (coverFirst e) (coverBlocks e)
+entry-inside s e t c g = let (lo, hi) = cover-within (base s) (blocks s) e (grants-place c e g) t in inside (base s) (blocks s) (coverFirst e) (coverBlocks e) lo hi
+
 -- 13 does not apply
-pub countable : (d : Change) (s : Store) (e : Entry) → misfit s (base s) ≡ false → astray (base s) (blocks s) e ≡ false → someOverrun d s 1 (λ k. e) ≡ false
-    → (c : Counter) → Countable d (s .ledger) c e
+pub countable : (d : Change) (s : Store) {n : ℕ} {x : ℕ → Entry} (e : Entry) (p m : ℕ) → Spreads n x e p m → misfit s (base s) ≡ false → GrantsInside (s .memory) (s .ledger) e p m
+    → someOverrun d s n x ≡ false → (c : Counter) → Countable d (s .ledger) c e p m
 unfolding counterOverruns
-countable d s e t u o c g i l =
-    let none = no-counter (λ c. counterOverruns d (s .ledger) c e) (overruns-entry d s e (fits s (base s) t .ledger-length) (placed s e t u) ∙ o) c in
-    let q : ℕ → Bool = λ i. overruns d (recordWord (s .ledger) (counterWord c) (recordOf (s .ledger) e + i)) 1 in
-    changeable d _ (any-none q (size e) (and-false-right (grants c e) (any (size e) q) none g) i l)
+countable d s e p m spreads t u o c g i l =
+    let none = no-counter (λ c. counterOverruns d (s .ledger) c e p m) (overruns-blocks d s spreads (fits s (base s) t .ledger-length) (recorded-inside s e p m t u) ∙ o) c in
+    let q : ℕ → Bool = λ i. overruns d (recordWord (s .ledger) (counterWord c) (recordOf (s .ledger) p + i)) 1 in
+    changeable d _ (any-none q m (and-false-right (grants c e) (any m q) none g) i l)
 
 -- The code, over plain variables: a test of one counter after the other, and a change of one after the other
 
-module _ (d : Change) (s : Store) (e : Entry) (t1 : misfit s (base s) ≡ false) (t10 : astray (base s) (blocks s) e ≡ false) where
-  pub overruns-any : {t : Bool} → t ≡ someCounter (λ c. counterOverruns d (s .ledger) c e) → t ≡ someOverrun d s 1 (λ k. e)
-  overruns-any h = h ∙ overruns-entry d s e (fits s (base s) t1 .ledger-length) (placed s e t1 t10)
+module _ (d : Change) (s : Store) (e : Entry) (p m : ℕ) (t1 : misfit s (base s) ≡ false) (t10 : GrantsInside (s .memory) (s .ledger) e p m) where
+  pub overruns-any : {t : Bool} → t ≡ someCounter (λ c. counterOverruns d (s .ledger) c e p m) → (n : ℕ) (x : ℕ → Entry) → Spreads n x e p m → t ≡ someOverrun d s n x
+  overruns-any h n x spreads = h ∙ overruns-blocks d s spreads (fits s (base s) t1 .ledger-length) (recorded-inside s e p m t1 t10)
 
-  module _ (bytes : Bytes (s .ledger)) (can : (c : Counter) → Countable d (s .ledger) c e) {l1 : List ℕ} (e1 : l1 ≡ changedCounter d (s .ledger) writable e) where
-    pub second-ready : Placed l1 e × Countable d l1 executable e
-    second-ready = rw e1 (ready-executable d s (fits s (base s) t1 .ledger-length) bytes e (placed s e t1 t10) can)
+  module _ (bytes : Bytes (s .ledger)) (can : (c : Counter) → Countable d (s .ledger) c e p m) {l1 : List ℕ} (e1 : l1 ≡ changedCounter d (s .ledger) writable e p m) where
+    pub second-ready : GrantsRecorded l1 e p m × Countable d l1 executable e p m
+    second-ready = rw e1 (ready-executable d s (fits s (base s) t1 .ledger-length) bytes e p m (recorded-inside s e p m t1 t10) can)
 
-    module _ {l2 : List ℕ} (e2 : l2 ≡ changedCounter d l1 executable e) where
-      pub third-ready : Placed l2 e × Countable d l2 linked e
-      third-ready = rw (e2, e1) (ready-linked d s (fits s (base s) t1 .ledger-length) bytes e (placed s e t1 t10) can)
+    module _ {l2 : List ℕ} (e2 : l2 ≡ changedCounter d l1 executable e p m) where
+      pub third-ready : GrantsRecorded l2 e p m × Countable d l2 linked e p m
+      third-ready = rw (e2, e1) (ready-linked d s (fits s (base s) t1 .ledger-length) bytes e p m (recorded-inside s e p m t1 t10) can)
 
-      pub all-changed : {l3 : List ℕ} → l3 ≡ changedCounter d l2 linked e → l3 ≡ recounted d s 1 (λ k. e)
-      all-changed e3 = rw (e2, e1) at e3 ∙ changed-recounted d s (fits s (base s) t1 .ledger-length) bytes e (placed s e t1 t10) can
+      pub all-changed : {l3 : List ℕ} → l3 ≡ changedCounter d l2 linked e p m → (n : ℕ) (x : ℕ → Entry) → Spreads n x e p m → l3 ≡ recounted d s n x
+      all-changed e3 n x spreads = rw (e2, e1) at e3 ∙ changed-recounted d s (fits s (base s) t1 .ledger-length) bytes e p m (recorded-inside s e p m t1 t10) can spreads
 
 -- Entries one after the other
 

@@ -1,11 +1,12 @@
 -- How a chain of tests in the code decides against a list of refusals: its number is that of the first test that holds.
-use mathlib.Core.Bool.{Bool, true, false}
+use mathlib.Core.Bool.{true, false}
 use mathlib.Core.List.{List, [], _∷_, _++_}
 use mathlib.Core.Logic.{_≢_}
 use mathlib.Core.Path.{_≡_, refl, sym, _∙_}
 use Prim.Native.Nat.{ℕ, zero, suc}
 use Rattle.rules.specs.Refusals.{Refusal, _if_, answerOf}
-use Rattle.rules.specs.Store.{Store, settle}
+use Rattle.rules.specs.Store.{Store, lent}
+use Rattle.rules.specs.Outcomes.{leaving, settle, callOutcome}
 use Rattle.rules.proofs.Refusals.{decides as decided, Passed, done, step}
 pub use Rattle.rules.proofs.Refusals.{Decides, here, past, none}
 
@@ -30,29 +31,17 @@ judged [] e = rw e none
 judged (k if true ∷ xs) e = rw e (here refl)
 judged (k if false ∷ xs) e = past refl (judged xs e)
 
--- a test that a function gave is the test of the list
-pub told : {r a b : Bool} → r ≡ a → r ≡ b → a ≡ b
-told p q = sym p ∙ q
+-- What a call answers and leaves, when its judge gave a
 
--- What a call with the number k answers and leaves, when its judge gave a
-
-answers : (k : ℕ) (old new : Store) (given : ℕ) → k ≡ settle k old new given .answer
-unfolding settle
-answers zero old new given = refl
-answers (suc k) old new given = refl
-
-refuses : (k : ℕ) (old new : Store) (given : ℕ) → k ≢ 0 → settle k old new given ≡ record { answer = k; after = old; byte = 0 }
-unfolding settle
-refuses zero old new given n = absurd (n refl)
-refuses (suc k) old new given n = refl
-
-module _ {k a : ℕ} (old new : Store) (given : ℕ) (judged : a ≡ k) where
-  pub settle-answer : a ≡ settle k old new given .answer
-  settle-answer = judged ∙ answers k old new given
-
-  pub settle-refused : a ≢ 0 → settle k old new given ≡ record { answer = k; after = old; byte = 0 }
-  settle-refused n = refuses k old new given (λ e. n (judged ∙ e))
-
-  pub settle-accepted : a ≡ 0 → settle k old new given ≡ record { answer = 0; after = new; byte = given }
+module _ (refusals : List Refusal) (old after : Store) {a : ℕ} (judged : a ≡ answerOf refusals) where
+  pub leaves-refused : a ≢ 0 → (a ≡ callOutcome refusals old after .answer) × (old ≡ callOutcome refusals old after .after)
   unfolding settle
-  settle-accepted e = rw (sym judged ∙ e) refl
+  leaves-refused n = go (answerOf refusals) judged where
+    go : (k : ℕ) → a ≡ k → (a ≡ settle k old (leaving after) .answer) × (old ≡ settle k old (leaving after) .after)
+    go zero e = absurd (n e)
+    go (suc k) e = (e, refl)
+
+  pub leaves-accepted : {memory ledger : List ℕ} → a ≡ 0 → memory ≡ after .memory → ledger ≡ after .ledger
+      → (0 ≡ callOutcome refusals old after .answer) × (lent memory ledger ≡ callOutcome refusals old after .after)
+  unfolding settle
+  leaves-accepted z m l = let e : answerOf refusals ≡ 0 = sym judged ∙ z in rw e (refl, λ i. lent (m i) (l i))

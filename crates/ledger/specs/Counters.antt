@@ -1,57 +1,28 @@
--- Counters that change by one: what the code's values mean, and the ledger when an entry is added or removed.
-use mathlib.Core.Bool.{Bool, cond, true, _&&_}
+-- Counters that change by one on adjacent blocks: what an entry grants is added or removed there.
+use mathlib.Core.Bool.{Bool, cond, _&&_}
 use mathlib.Core.List.{List}
 use mathlib.Core.Path.{_≡_}
-use Prim.Native.Nat.{ℕ, zero, suc, _+_, _-_, _^_, _<_, _≤_}
-use Rattle.words.specs.Bounded.{any}
-use Rattle.words.specs.Words.{word}
-use Rattle.entries.specs.Entries.{Entry, first, size}
-use Rattle.rules.specs.Store as store
-use Rattle.rules.specs.Store.{basePlace, writable, executable, linked, counterWord, recordWord, putRecordWord}
-use Rattle.rules.specs.Tables.{grants}
-use Rattle.rules.specs.General as general
-use Rattle.rules.specs.General.{added, removed, endValue, overruns}
-use Rattle.ledger.specs.Records.{InLedger}
-use Rattle.ledger.specs.declared.counters.Change as change
-use Rattle.ledger.specs.declared.counters.Change.the-variants.{Added, Removed}
-use Rattle.ledger.specs.declared.counters.Counter as counter
-use Rattle.ledger.specs.declared.counters.Counter.the-variants.{Writable, Executable, Linked}
+use Prim.Native.Nat.{ℕ, zero, suc, _+_}
+use Rattle.words.specs.Bounded.{among, any, num}
+use Rattle.entries.specs.Entries.{Entry}
+use Rattle.rules.specs.Store.{Counter, counterWord, recordWord, putRecordWord}
+use Rattle.rules.specs.Tables.{grants, gain}
+use Rattle.rules.specs.General.{Change, endValue, overruns}
+use Rattle.ledger.specs.Needs.{recordOf}
 
-abbrev pub changeOf : change.Change → general.Change
-changeOf Added = added
-changeOf Removed = removed
+-- the n entries x give what e grants, once, to each of the m blocks from p on, and nothing else
+pub record Spreads (n : ℕ) (x : ℕ → Entry) (e : Entry) (p m : ℕ) : Type 0 where
+  pub gains : (c : Counter) (q : ℕ) → gain n x c q ≡ num (grants c e && among p m q)
 
-abbrev pub counterOf : counter.Counter → store.Counter
-counterOf Writable = writable
-counterOf Executable = executable
-counterOf Linked = linked
-
--- one can be added to a stored value, or removed from it
-abbrev pub Changeable : general.Change → ℕ → Type 0
-Changeable added old = old + 1 < 2 ^ 32
-Changeable removed old = 0 < old
-
--- the first record that an entry's place has in the ledger
-abbrev pub recordOf : List ℕ → Entry → ℕ
-recordOf ledger e = first e - word ledger basePlace
-
--- the ledger has a record for each block of a place to which something is given
-abbrev pub Placed : List ℕ → Entry → Type 0
-Placed ledger e = (c : store.Counter) → grants c e ≡ true → (word ledger basePlace ≤ first e) × InLedger ledger (recordOf ledger e + size e)
-
--- each counter c by which the entry counts can be changed
-abbrev pub Countable : general.Change → List ℕ → store.Counter → Entry → Type 0
-Countable d ledger c e = grants c e ≡ true → (i : ℕ) → i < size e → Changeable d (recordWord ledger (counterWord c) (recordOf ledger e + i))
-
--- a counter c by which the entry counts would overrun
-unfoldable pub counterOverruns : general.Change → List ℕ → store.Counter → Entry → Bool
-counterOverruns d ledger c e = grants c e && any (size e) (λ i. overruns d (recordWord ledger (counterWord c) (recordOf ledger e + i)) 1)
+-- a counter that the entry grants would overrun on some of the m blocks from p on
+unfoldable pub counterOverruns : Change → List ℕ → Counter → Entry → ℕ → ℕ → Bool
+counterOverruns d ledger c e p m = grants c e && any m (λ i. overruns d (recordWord ledger (counterWord c) (recordOf ledger p + i)) 1)
 
 -- word k of the m records from block b on, each changed by one
-unfoldable pub changed : general.Change → List ℕ → ℕ → ℕ → ℕ → List ℕ
+unfoldable pub changed : Change → List ℕ → ℕ → ℕ → ℕ → List ℕ
 changed d ledger k b zero = ledger
 changed d ledger k b (suc m) = putRecordWord (changed d ledger k b m) k (b + m) (endValue d (recordWord ledger k (b + m)) 1)
 
--- the counters c by which the entry counts, each changed by one
-unfoldable pub changedCounter : general.Change → List ℕ → store.Counter → Entry → List ℕ
-changedCounter d ledger c e = cond (grants c e) (changed d ledger (counterWord c) (recordOf ledger e) (size e)) ledger
+-- the counter c of the m blocks from p on, each changed by one if the entry grants it
+unfoldable pub changedCounter : Change → List ℕ → Counter → Entry → ℕ → ℕ → List ℕ
+changedCounter d ledger c e p m = cond (grants c e) (changed d ledger (counterWord c) (recordOf ledger p) m) ledger

@@ -1,5 +1,4 @@
-pub mod Records
+pub mod Meaning
+pub mod Needs
 pub mod Counters
-pub mod Rights
-pub mod Lent
 pub mod Pieces

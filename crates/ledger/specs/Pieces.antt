@@ -7,8 +7,10 @@ use Rattle.rules.specs.Store.{Store}
 use Rattle.rules.specs.Tables.{tableBlocks}
 use Rattle.rules.specs.General.{tableOutside, misaligned, otherType}
 
+-- "2; 3 (L1)" of a table at block p
 abbrev pub placeRefusals : Level → Store → ℕ → List Refusal
 placeRefusals v s p = 2 if tableOutside v s p ∷ 3 if misaligned p (tableBlocks v) ∷ []
 
+-- and "5", unless its blocks are of type t
 abbrev pub tableRefusals : Level → Store → ℕ → ℕ → List Refusal
 tableRefusals v s p t = 2 if tableOutside v s p ∷ 3 if misaligned p (tableBlocks v) ∷ 5 if otherType v s p t ∷ []

@@ -3,24 +3,25 @@ use crate::layout::COUNTER_LIMIT;
 use crate::layout::EXECUTABLE;
 use crate::layout::LINKED;
 use crate::layout::WRITABLE;
-use crate::layout::base;
 use crate::layout::put_record_word;
+use crate::layout::record_of;
 use crate::layout::record_word;
-use crate::rights::Right;
-use crate::rights::allows;
 use entries::entry::Entry;
+use entries::rights::Right;
+use entries::rights::allows;
 ghost use mathlib.Core.Path.{_≡_};
 ghost use mathlib.Core.Bool.{false};
 ghost use Prim.Native.Nat.{ℕ, _+_, _<_};
-ghost use Rattle.words.specs.Bounded.{any};
+ghost use Rattle.words.specs.Bounded.{Small, any};
+ghost use Rattle.entries.specs.Entries as specified;
 ghost use Rattle.entries.specs.Meaning.{meaning};
 ghost use Rattle.rules.specs.Store as store;
-ghost use Rattle.rules.specs.Store.{base as storedBase, blocks, counterWord, lent, putRecordWord, recordWord};
+ghost use Rattle.rules.specs.Store.{base as storedBase, blocks, counterWord, lent, putRecordWord, recordWord, recordWords};
 ghost use Rattle.rules.specs.Tables.{astray, grants};
 ghost use Rattle.rules.specs.General.{endValue, overruns, recounted, someOverrun};
-ghost use Rattle.ledger.specs.Records.{InLedger};
-ghost use Rattle.ledger.specs.Counters.{Changeable, Countable, Placed, changeOf, changed, changedCounter, counterOf, counterOverruns};
-ghost use Rattle.ledger.specs.Lent.{Fits};
+ghost use Rattle.ledger.specs.Counters.{Spreads, changed, changedCounter, counterOverruns};
+ghost use Rattle.ledger.specs.Meaning.{changeOf, counterOf};
+ghost use Rattle.ledger.specs.Needs.{Changeable, Countable, Fits, GrantsInside, GrantsRecorded, InLedger};
 
 // An entry is added to the counters, or taken away from them.
 pub enum Change {
@@ -36,7 +37,7 @@ pub enum Counter {
 
 // The counter's word in a record.
 pub fn counter_word(counter: Counter) -> usize
-    ensures { λ r. ⌜ (r ≡ counterWord (counterOf counter)) × (r < 4) ⌝ }
+    ensures { λ r. ⌜ Small (counterWord (counterOf counter)) recordWords r ⌝ }
 {
     match counter {
         Counter::Writable => WRITABLE,
@@ -78,7 +79,7 @@ fn end_value(change: Change, old: u32) -> u32
 
 // The counter would overrun in some of the m records from block b on.
 fn some_overruns(change: Change, ledger: &[u8], k: usize, b: usize, m: usize) -> bool
-    requires { ⌜ (k < 4) × InLedger (now ledger) (b + m) ⌝ }
+    requires { ⌜ (k < recordWords) × InLedger (now ledger) (b + m) ⌝ }
     ensures { λ r. ⌜ r ≡ any m (λ i. overruns (changeOf change) (recordWord (now (ledger .entry)) k (b + i)) 1) ⌝ }
 {
     for i in 0..m {
@@ -91,7 +92,7 @@ fn some_overruns(change: Change, ledger: &[u8], k: usize, b: usize, m: usize) ->
 
 // Changes word k of block b's record by one.
 fn change_word(change: Change, ledger: &mut [u8], k: usize, b: usize)
-    requires { ⌜ (k < 4) × InLedger (now ledger) (b + 1) × Changeable (changeOf change) (recordWord (now ledger) k b) ⌝ }
+    requires { ⌜ (k < recordWords) × InLedger (now ledger) (b + 1) × Changeable (changeOf change) (recordWord (now ledger) k b) ⌝ }
     ensures { λ r. ⌜ now (ledger .exit) ≡ putRecordWord (now (ledger .entry)) k b (endValue (changeOf change) (recordWord (now (ledger .entry)) k b) 1) ⌝ }
 {
     let old = record_word(ledger, k, b);
@@ -100,7 +101,7 @@ fn change_word(change: Change, ledger: &mut [u8], k: usize, b: usize)
 
 // The same for the m records from block b on.
 fn change_words(change: Change, ledger: &mut [u8], k: usize, b: usize, m: usize)
-    requires { ⌜ (k < 4) × InLedger (now ledger) (b + m) × ((i : ℕ) → i < m → Changeable (changeOf change) (recordWord (now ledger) k (b + i))) ⌝ }
+    requires { ⌜ (k < recordWords) × InLedger (now ledger) (b + m) × ((i : ℕ) → i < m → Changeable (changeOf change) (recordWord (now ledger) k (b + i))) ⌝ }
     ensures { λ r. ⌜ now (ledger .exit) ≡ changed (changeOf change) (now (ledger .entry)) k b m ⌝ }
 {
     for i in 0..m {
@@ -108,64 +109,82 @@ fn change_words(change: Change, ledger: &mut [u8], k: usize, b: usize, m: usize)
     }
 }
 
-// One counter, at each of the entry's blocks, would overrun.
-fn counter_overruns(change: Change, ledger: &[u8], counter: Counter, e: Entry) -> bool
-    requires { ⌜ Placed (now ledger) (meaning e) ⌝ }
-    ensures { λ r. ⌜ r ≡ counterOverruns (changeOf change) (now (ledger .entry)) (counterOf counter) (meaning e) ⌝ }
+// One counter would overrun on some of the m blocks from p on, to which the entry grants it.
+fn counter_overruns(
+    change: Change,
+    ledger: &[u8],
+    counter: Counter,
+    e: Entry,
+    p: u32,
+    m: u32,
+) -> bool
+    requires { ⌜ GrantsRecorded (now ledger) (meaning e) p m ⌝ }
+    ensures { λ r. ⌜ r ≡ counterOverruns (changeOf change) (now (ledger .entry)) (counterOf counter) (meaning e) p m ⌝ }
 {
     if !grants(counter, e) {
         return false;
     }
-    let b = entries::entry::first(e) - base(ledger);
-    some_overruns(
-        change,
-        ledger,
-        counter_word(counter),
-        b as usize,
-        entries::entry::size(e) as usize,
-    )
+    let b = record_of(ledger, p);
+    some_overruns(change, ledger, counter_word(counter), b, m as usize)
 }
 
-// Changes one counter at each of the entry's blocks.
-fn change_counter(change: Change, ledger: &mut [u8], counter: Counter, e: Entry)
-    requires { ⌜ Placed (now ledger) (meaning e) × Countable (changeOf change) (now ledger) (counterOf counter) (meaning e) ⌝ }
-    ensures { λ r. ⌜ now (ledger .exit) ≡ changedCounter (changeOf change) (now (ledger .entry)) (counterOf counter) (meaning e) ⌝ }
+// Changes one counter on each of the m blocks from p on, if the entry grants it.
+fn change_counter(change: Change, ledger: &mut [u8], counter: Counter, e: Entry, p: u32, m: u32)
+    requires { ⌜ GrantsRecorded (now ledger) (meaning e) p m × Countable (changeOf change) (now ledger) (counterOf counter) (meaning e) p m ⌝ }
+    ensures { λ r. ⌜ now (ledger .exit) ≡ changedCounter (changeOf change) (now (ledger .entry)) (counterOf counter) (meaning e) p m ⌝ }
 {
     if grants(counter, e) {
-        let b = entries::entry::first(e) - base(ledger);
-        change_words(
-            change,
-            ledger,
-            counter_word(counter),
-            b as usize,
-            entries::entry::size(e) as usize,
-        );
+        let b = record_of(ledger, p);
+        change_words(change, ledger, counter_word(counter), b, m as usize);
     }
 }
 
-// Some counter by which the entry counts would overrun. Of the memory only the number of blocks matters.
-pub fn entry_overruns(change: Change, memory: &[u8], ledger: &[u8], e: Entry) -> bool
-    requires { ⌜ Fits (now memory) (now ledger) ⌝ }
-    requires { ⌜ astray (storedBase (lent (now memory) (now ledger))) (blocks (lent (now memory) (now ledger))) (meaning e) ≡ false ⌝ }
-    ensures { λ r. ⌜ r ≡ someOverrun (changeOf change) (lent (now (memory .entry)) (now (ledger .entry))) 1 (λ k. meaning e) ⌝ }
+// Some counter would overrun if what the entry grants were added to the m blocks from p on, or taken away there. Of the memory only the number of
+// blocks matters.
+pub fn blocks_overrun(
+    change: Change,
+    memory: &[u8],
+    ledger: &[u8],
+    e: Entry,
+    p: u32,
+    m: u32,
+) -> bool
+    requires { ⌜ Fits (now memory) (now ledger) × GrantsInside (now memory) (now ledger) (meaning e) p m ⌝ }
+    ensures { λ r. ⌜ ((n : ℕ) (x : ℕ → specified.Entry) → Spreads n x (meaning e) p m → r ≡ someOverrun (changeOf change) (lent (now (memory .entry)) (now (ledger .entry))) n x) ⌝ }
 {
-    if counter_overruns(change, ledger, Counter::Writable, e) {
+    if counter_overruns(change, ledger, Counter::Writable, e, p, m) {
         return true;
     }
-    if counter_overruns(change, ledger, Counter::Executable, e) {
+    if counter_overruns(change, ledger, Counter::Executable, e, p, m) {
         return true;
     }
-    counter_overruns(change, ledger, Counter::Linked, e)
+    counter_overruns(change, ledger, Counter::Linked, e, p, m)
 }
 
-// Adds the entry to the counters, or takes it away.
+// Adds what the entry grants to the counters of the m blocks from p on, or takes it away.
+pub fn change_blocks(change: Change, memory: &[u8], ledger: &mut [u8], e: Entry, p: u32, m: u32)
+    requires { ⌜ Fits (now memory) (now ledger) × GrantsInside (now memory) (now ledger) (meaning e) p m ⌝ }
+    requires { ⌜ ((c : store.Counter) → Countable (changeOf change) (now ledger) c (meaning e) p m) ⌝ }
+    ensures { λ r. ⌜ ((n : ℕ) (x : ℕ → specified.Entry) → Spreads n x (meaning e) p m → now (ledger .exit) ≡ recounted (changeOf change) (lent (now (memory .entry)) (now (ledger .entry))) n x) ⌝ }
+{
+    change_counter(change, ledger, Counter::Writable, e, p, m);
+    change_counter(change, ledger, Counter::Executable, e, p, m);
+    change_counter(change, ledger, Counter::Linked, e, p, m);
+}
+
+// Adds an entry to the counters of the blocks that it covers, or takes it away.
 pub fn change_entry(change: Change, memory: &[u8], ledger: &mut [u8], e: Entry)
     requires { ⌜ Fits (now memory) (now ledger) ⌝ }
     requires { ⌜ astray (storedBase (lent (now memory) (now ledger))) (blocks (lent (now memory) (now ledger))) (meaning e) ≡ false ⌝ }
-    requires { ⌜ ((c : store.Counter) → Countable (changeOf change) (now ledger) c (meaning e)) ⌝ }
+    requires { ⌜ ((c : store.Counter) → Countable (changeOf change) (now ledger) c (meaning e) (specified.coverFirst (meaning e)) (specified.coverBlocks (meaning e))) ⌝ }
     ensures { λ r. ⌜ now (ledger .exit) ≡ recounted (changeOf change) (lent (now (memory .entry)) (now (ledger .entry))) 1 (λ k. meaning e) ⌝ }
 {
-    change_counter(change, ledger, Counter::Writable, e);
-    change_counter(change, ledger, Counter::Executable, e);
-    change_counter(change, ledger, Counter::Linked, e);
+    change_blocks(
+        change,
+        memory,
+        ledger,
+        e,
+        entries::entry::cover_first(e),
+        entries::entry::cover_blocks(e),
+    );
 }

@@ -1,10 +1,12 @@
 // Where the ledger keeps what, and the limits of a region: "Memory and ledger".
 use words::WORD_BYTES;
 ghost use mathlib.Core.Path.{_≡_};
-ghost use Prim.Native.Nat.{_+_, _*_, _≤_};
+ghost use Prim.Native.Nat.{_+_, _*_, _^_, _≤_};
 ghost use lib.ListN.{length};
+ghost use Rattle.words.specs.Bounded.{Small};
 ghost use Rattle.words.specs.Words.{word, putWord};
 ghost use Rattle.rules.specs.Store.{ledgerHeadBytes, ledgerRecordBytes, basePlace, activePlace, recordWord, putRecordWord};
+ghost use Rattle.ledger.specs.Needs.{recordOf};
 
 pub const BLOCK_BYTES: usize = signature::golden::BLOCK_BYTES;
 
@@ -21,13 +23,15 @@ pub const PHYSICAL_BLOCKS: usize = 0x10_0000;
 // Bytes before the records, and of a record.
 pub const LEDGER_HEAD_BYTES: usize = 8;
 
-pub const LEDGER_RECORD_BYTES: usize = 16;
+pub const LEDGER_RECORD_BYTES: usize = WORD_BYTES * RECORD_WORDS;
 
 const BASE_PLACE: usize = 0;
 
 const ACTIVE_PLACE: usize = 4;
 
-// The words of a record.
+// The words of a record, and which they are.
+const RECORD_WORDS: usize = 4;
+
 pub const TYPE: usize = 0;
 
 pub const WRITABLE: usize = 1;
@@ -73,6 +77,14 @@ pub fn put_active(ledger: &mut [u8], table: u32)
     ensures { λ r. ⌜ now (ledger .exit) ≡ putWord (now (ledger .entry)) activePlace table ⌝ }
 {
     words::put_word(ledger, ACTIVE_PLACE, table);
+}
+
+// The number of a block's record: the block's own less the region's first.
+pub fn record_of(ledger: &[u8], block: u32) -> usize
+    requires { ⌜ (ledgerHeadBytes ≤ length (now ledger)) × (word (now ledger) basePlace ≤ block) ⌝ }
+    ensures { λ r. ⌜ Small (recordOf (now (ledger .entry)) block) (2 ^ 32) r ⌝ }
+{
+    (block - base(ledger)) as usize
 }
 
 // Word k of the record of block b, b counted from the region's first.

@@ -9,16 +9,12 @@ use crate::layout::PHYSICAL_BLOCKS;
 use crate::layout::base;
 use entries::entry;
 use entries::entry::Entry;
-use signature::golden::DIGEST_BYTES;
 ghost use mathlib.Core.Path.{_≡_};
 ghost use Prim.Native.Nat.{_/_, _<_, _^_};
 ghost use lib.ListN.{length};
 ghost use Rattle.entries.specs.Meaning.{meaning};
-ghost use Rattle.rules.specs.Signature.{misfitImage};
 ghost use Rattle.rules.specs.Store.{base as storedBase, blockBytes, lent, misfit, outside};
 ghost use Rattle.rules.specs.Tables.{astray};
-
-const MOST_DIGESTS: usize = 1024;
 
 pub fn blocks(memory: &[u8]) -> usize
     ensures { λ r. ⌜ r ≡ length (now (memory .entry)) / blockBytes ⌝ }
@@ -59,15 +55,6 @@ pub fn is_misfit_stored(memory: &[u8], ledger: &[u8]) -> bool
     is_misfit(memory, ledger, base(ledger))
 }
 
-pub fn is_misfit_image(golden: &[u8]) -> bool
-    ensures { λ r. ⌜ r ≡ misfitImage (now (golden .entry)) ⌝ }
-{
-    if golden.len() % DIGEST_BYTES != 0 {
-        return true;
-    }
-    MOST_DIGESTS < golden.len() / DIGEST_BYTES
-}
-
 // The m blocks from p on are not wholly among the n blocks from first on.
 pub fn is_outside(first: u32, n: usize, p: u32, m: u32) -> bool
     requires { ⌜ n < 2 ^ 32 ⌝ }
@@ -84,9 +71,9 @@ pub fn is_astray(e: Entry, first: u32, n: usize) -> bool
     requires { ⌜ n < 2 ^ 32 ⌝ }
     ensures { λ r. ⌜ r ≡ astray first n (meaning e) ⌝ }
 {
-    let m = entry::size(e);
+    let m = entry::place_blocks(e);
     if m == 0 {
         return false;
     }
-    is_outside(first, n, entry::first(e), m)
+    is_outside(first, n, entry::place_first(e), m)
 }

@@ -4,6 +4,7 @@ use crate::layout::TYPE;
 use crate::layout::TYPE_L1;
 use crate::layout::TYPE_L2;
 use crate::layout::base;
+use crate::layout::record_of;
 use crate::refusals::ACCEPTED;
 use crate::refusals::MISALIGNED;
 use crate::refusals::OUTSIDE_REGION;
@@ -18,8 +19,8 @@ ghost use Rattle.entries.specs.Meaning.{levelOf};
 ghost use Rattle.rules.specs.General.{otherType};
 ghost use Rattle.rules.specs.Refusals.{answerOf};
 ghost use Rattle.rules.specs.Store.{lent};
-ghost use Rattle.rules.specs.Tables.{entries, tableBlocks, typeCode};
-ghost use Rattle.ledger.specs.Lent.{Fits, TableInside};
+ghost use Rattle.rules.specs.Tables.{tableBlocks, tableEntries, typeCode};
+ghost use Rattle.ledger.specs.Needs.{Fits, TableInside};
 ghost use Rattle.ledger.specs.Pieces.{placeRefusals, tableRefusals};
 
 // The blocks of a table of each level.
@@ -37,7 +38,7 @@ pub fn table_blocks(level: Level) -> u32
 }
 
 pub fn table_entries(level: Level) -> u32
-    ensures { λ r. ⌜ r ≡ entries (levelOf level) ⌝ }
+    ensures { λ r. ⌜ r ≡ tableEntries (levelOf level) ⌝ }
 {
     BLOCK_WORDS * table_blocks(level)
 }
@@ -72,7 +73,7 @@ pub fn is_other_type(level: Level, memory: &[u8], ledger: &[u8], block: u32, t: 
     requires { ⌜ TableInside (levelOf level) (now memory) (now ledger) block ⌝ }
     ensures { λ r. ⌜ r ≡ otherType (levelOf level) (lent (now (memory .entry)) (now (ledger .entry))) block t ⌝ }
 {
-    let b = (block - base(ledger)) as usize;
+    let b = record_of(ledger, block);
     some_differs(ledger, TYPE, b, table_blocks(level) as usize, t)
 }
 

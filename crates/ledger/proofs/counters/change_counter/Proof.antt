@@ -1,27 +1,24 @@
--- Where the entry grants nothing, no counter changes; else the words of its records do.
+-- Where the entry grants nothing, no counter changes; else the words of the records do.
 use native.Mathlib.Omega.{arith}
-use Rattle.ledger.specs.Counters.{changedCounter}
-use Rattle.ledger.proofs.Judge.{told}
 use borrow.Author.Needs.{needs}
+use Rattle.words.proofs.Bounded.{told}
+use Rattle.ledger.specs.Counters.{changedCounter}
 use Rattle.ledger.proofs.counters.change_counter.Statement.{statement}
 use Rattle.ledger.proofs.counters.change_counter.Tie as tie
 
-base-requires : tie.Need-base-requires
-base-requires c κs = let (lo, hi) = c .before .before .before .before .before .pre .0 _ (told (c .before .before .before .grants .ensures) (c .before .before .if1 .taken)) in omega arith
-
-sub-b : tie.Need-sub-b
-sub-b c = let (lo, hi) = c .before .before .before .before .before .before .pre .0 _ (told (c .before .before .before .before .grants .ensures) (c .before .before .before .if1 .taken)) in omega arith
+record-of-requires : tie.Need-record-of-requires
+record-of-requires c κs = let (lo, hi) = c .before .before .before .before .pre .0 _ (told (c .before .before .grants .ensures) (c .before .if1 .taken)) in (omega arith, lo)
 
 change-words-requires : tie.Need-change-words-requires
-change-words-requires c κs =
-    let start = c .before .before .before .before .before .before .before .before .before in
-    let granted = told (c .before .before .before .before .before .before .before .grants .ensures) (c .before .before .before .before .before .before .if1 .taken) in
-    let (lo, hi) = start .pre .0 _ granted in
-    (c .before .counter-word .ensures .1, omega arith, λ i l. rw (c .before .counter-word .ensures .0, c .before .before .before .before .before .first .ensures, c .before .before .before .base .ensures) (start .pre .1 granted i (omega arith)))
+change-words-requires c κs = let granted = told (c .before .before .before .before .before .grants .ensures) (c .before .before .before .before .if1 .taken) in
+    let (lo, hi) = c .before .before .before .before .before .before .before .pre .0 _ granted in
+    let b = c .before .before .record-of .ensures in
+    let k = c .counter-word .ensures in
+    (k .below, omega arith, λ i l. rw (k .is, b .is) (c .before .before .before .before .before .before .before .pre .1 granted i l))
 
 returns : tie.Need-returns
 unfolding changedCounter
-returns c = rw (told (c .before .before .before .before .before .before .before .before .before .before .grants .ensures) (c .before .before .before .before .before .before .before .before .before .if1 .taken)) (rw (c .before .before .before .before .counter-word .ensures .0, c .before .before .before .before .before .before .before .before .first .ensures, c .before .before .before .before .before .before .base .ensures, c .before .before .before .size .ensures) at (c .before .before .change-words .ensures))
+returns c = rw (told (c .before .before .before .before .before .before .before .before .grants .ensures) (c .before .before .before .before .before .before .before .if1 .taken)) (rw (c .before .before .before .counter-word .ensures .is, c .before .before .before .before .before .record-of .ensures .is) at (c .before .before .change-words .ensures))
 
 returns-2 : tie.Need-returns-2
 unfolding changedCounter
@@ -32,13 +29,8 @@ change-counter-spec =
     tie.close
     (tie.spec
     (λ c κs. search needs)
+    record-of-requires
     (λ c κs. search needs)
-    base-requires
-    sub-b
-    (λ c κs. search needs)
-    (λ c. search needs)
-    (λ c κs. search needs)
-    (λ c. search needs)
     change-words-requires
     (λ c. search needs)
     returns

@@ -1,36 +1,22 @@
--- Each counter is changed where the entry grants, and the other two are not touched.
-use native.Mathlib.Omega.{arith}
-use Rattle.ledger.proofs.Counting.{placed, second-ready, third-ready, all-changed}
+-- An entry gives what it grants to the blocks that it covers.
 use borrow.Author.Needs.{needs}
+use Rattle.rules.specs.Store.{lent}
+use Rattle.ledger.proofs.Counting.{entry-spreads, entry-inside}
 use Rattle.ledger.proofs.counters.change_entry.Statement.{statement}
 use Rattle.ledger.proofs.counters.change_entry.Tie as tie
 
-change-counter-requires : tie.Need-change-counter-requires
-change-counter-requires c κs =
-    let start = c .before .before .before in
-    (placed _ _ (start .pre .0) (start .pre .1 .0), start .pre .1 .1 _)
-
-change-counter-requires-2 : tie.Need-change-counter-requires-2
-change-counter-requires-2 c κs =
-    let start = c .before .before .before .before .before .before .before in
-    second-ready _ _ _ (start .pre .0) (start .pre .1 .0) (λ i. omega (arith, c .before .before .before .before .before .slice-known .given i)) (start .pre .1 .1) (c .before .before .before .change-counter .ensures)
-
-change-counter-requires-3 : tie.Need-change-counter-requires-3
-change-counter-requires-3 c κs =
-    let start = c .before .before .before .before .before .before .before .before .before .before .before in
-    third-ready _ _ _ (start .pre .0) (start .pre .1 .0) (λ i. omega (arith, c .before .before .before .before .before .before .before .before .before .slice-known .given i)) (start .pre .1 .1) (c .before .before .before .before .before .before .before .change-counter .ensures) (c .before .before .before .change-counter2 .ensures)
+change-blocks-requires : tie.Need-change-blocks-requires
+change-blocks-requires c κs =
+    let start = c .before .before .before .before .before in
+    let a = start .args in
+    rw (c .before .cover-first .ensures, c .cover-blocks .ensures)
+    ((start .pre .0, entry-inside (lent (a .memory .now) (a .ledger .now)) _ (start .pre .1 .0)), start .pre .1 .1)
 
 returns : tie.Need-returns
 returns c =
-    let start = c .before .before .before .before .before .before .before .before .before .before .before .before .before .before in
-    all-changed _ _ _ (start .pre .0) (start .pre .1 .0) (λ i. omega (arith, c .before .before .before .before .before .before .before .before .before .before .before .before .slice-known .given i)) (start .pre .1 .1) (c .before .before .before .before .before .before .before .before .before .before .change-counter .ensures) (c .before .before .before .before .before .before .change-counter2 .ensures) (c .before .before .change-counter3 .ensures)
+    (rw (c .before .before .before .before .cover-first .ensures, c .before .before .before .cover-blocks .ensures) at (c .before .before .change-blocks .ensures))
+    1 _ (entry-spreads _)
 
 pub change-entry-spec : {M : Type 1} → statement M
 change-entry-spec =
-    tie.close
-    (tie.spec
-    change-counter-requires
-    change-counter-requires-2
-    change-counter-requires-3
-    (λ c. search needs)
-    returns)
+    tie.close (tie.spec (λ c κs. search needs) (λ c κs. search needs) change-blocks-requires (λ c. search needs) returns)

@@ -1,10 +1,11 @@
 -- The invariant: the words of the records passed are changed.
-use Rattle.ledger.proofs.Counting.{length-changed, changeable-next, changed-turn}
 use mathlib.Core.Path.{_≡_, refl, _∙_, ap}
 use Prim.Native.Nat.{_≤_, _-_}
 use native.Mathlib.Omega.{arith}
 use lib.ListN.{length}
-use Rattle.ledger.specs.Counters.{changeOf, changed}
+use Rattle.ledger.specs.Counters.{changed}
+use Rattle.ledger.specs.Meaning.{changeOf}
+use Rattle.ledger.proofs.Counting.{length-changed, changeable-next, changed-turn}
 use Rattle.ledger.proofs.counters.change_words.Statement.{statement}
 use Rattle.ledger.proofs.counters.change_words.Tie as tie
 

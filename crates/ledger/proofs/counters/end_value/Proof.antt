@@ -1,7 +1,7 @@
 -- By the direction, the sum or the difference.
 use native.Mathlib.Omega.{arith}
-use Rattle.rules.specs.General.{endValue}
 use borrow.Author.Needs.{needs}
+use Rattle.rules.specs.General.{endValue}
 use Rattle.ledger.proofs.counters.end_value.Statement.{statement}
 use Rattle.ledger.proofs.counters.end_value.Tie as tie
 

@@ -1,6 +1,6 @@
 -- Each counter has its clause of the definition.
-use Rattle.rules.specs.Tables.{grants}
 use borrow.Author.Needs.{needs}
+use Rattle.rules.specs.Tables.{grants}
 use Rattle.ledger.proofs.counters.grants.Statement.{statement}
 use Rattle.ledger.proofs.counters.grants.Tie as tie
 

@@ -1,8 +1,8 @@
 -- By the direction, the test of the end value.
 use mathlib.Core.Path.{_∙_}
 use borrow.Author.Tests.{eq-eqb}
-use Rattle.ledger.proofs.Counting.{overruns-added, overruns-none, overruns-removed}
 use borrow.Author.Needs.{needs}
+use Rattle.ledger.proofs.Counting.{overruns-added, overruns-none, overruns-removed}
 use Rattle.ledger.proofs.counters.overruns.Statement.{statement}
 use Rattle.ledger.proofs.counters.overruns.Tie as tie
 

@@ -2,10 +2,10 @@
 use Prim.Native.Nat.{_-_, _+_}
 use native.Mathlib.Omega.{arith}
 use Rattle.words.proofs.Bounded.{Scanned, scan-start, scan-next, scan-found, scan-end}
+use Rattle.words.proofs.Bounded.{told}
 use Rattle.rules.specs.Store.{recordWord}
 use Rattle.rules.specs.General.{overruns}
-use Rattle.ledger.specs.Counters.{changeOf}
-use Rattle.ledger.proofs.Judge.{told}
+use Rattle.ledger.specs.Meaning.{changeOf}
 use Rattle.ledger.proofs.counters.some_overruns.Statement.{statement}
 use Rattle.ledger.proofs.counters.some_overruns.Tie as tie
 

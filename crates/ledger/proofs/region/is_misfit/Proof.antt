@@ -1,7 +1,7 @@
 -- Each return is decided by the tests up to its own.
 use borrow.Author.Needs.{needs}
-use Rattle.words.proofs.Bounded.{differ, same}
 use borrow.Author.Tests.{lt-ltb, le-ltb}
+use Rattle.words.proofs.Bounded.{differ, same}
 use Rattle.rules.specs.Store.{misfit}
 use Rattle.ledger.proofs.region.is_misfit.Statement.{statement}
 use Rattle.ledger.proofs.region.is_misfit.Tie as tie

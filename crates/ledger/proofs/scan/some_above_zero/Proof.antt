@@ -1,9 +1,9 @@
 -- A number is above 0 exactly if it differs from 0.
 use mathlib.Core.Path.{sym, _∙_}
 use Prim.Native.Nat.{_+_}
+use borrow.Author.Needs.{needs}
 use Rattle.words.proofs.Bounded.{any-same, above-zero}
 use Rattle.rules.specs.Store.{recordWord}
-use borrow.Author.Needs.{needs}
 use Rattle.ledger.proofs.scan.some_above_zero.Statement.{statement}
 use Rattle.ledger.proofs.scan.some_above_zero.Tie as tie
 

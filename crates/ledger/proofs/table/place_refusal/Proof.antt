@@ -1,9 +1,10 @@
 -- Each return is decided by the tests up to its own.
-use borrow.Author.Needs.{needs}
 use native.Mathlib.Omega.{arith}
+use borrow.Author.Needs.{needs}
 use Rattle.words.proofs.Bounded.{differ, same}
+use Rattle.words.proofs.Bounded.{told}
 use Rattle.rules.proofs.State.{fits}
-use Rattle.ledger.proofs.Judge.{decides, none, here, past, told}
+use Rattle.ledger.proofs.Judge.{decides, none, here, past}
 use Rattle.ledger.proofs.table.place_refusal.Statement.{statement}
 use Rattle.ledger.proofs.table.place_refusal.Tie as tie
 

@@ -2,9 +2,10 @@
 use mathlib.Core.List.{[], _∷_}
 use mathlib.Core.Path.{sym, _∙_}
 use native.Mathlib.Omega.{arith}
-use Rattle.rules.proofs.Refusals.{passed, now}
-use Rattle.ledger.proofs.Judge.{decides, none, here, past, refused, accepted, told}
 use borrow.Author.Needs.{needs}
+use Rattle.words.proofs.Bounded.{told}
+use Rattle.rules.proofs.Refusals.{passed, now}
+use Rattle.ledger.proofs.Judge.{decides, none, here, past, refused, accepted}
 use Rattle.ledger.proofs.table.table_refusal.Statement.{statement}
 use Rattle.ledger.proofs.table.table_refusal.Tie as tie
 
