@@ -7,20 +7,21 @@ use Prim.Native.Nat.{ℕ, zero, suc, _+_, _*_, _-_, _/_, _<_, _≤_}
 use native.Mathlib.Nat.{mod-lt}
 use native.Mathlib.Omega.{arith}
 use Rattle.words.specs.Words.{bits}
-use Rattle.entries.specs.Entries.{Entry, fault, unaccepted, link, section, page, Level, l1, l2, entryAt, isFault, isUnaccepted, first, size, blockTables}
+use Rattle.entries.specs.Entries.{Entry, fault, unaccepted, link, section, page, Level, l1, l2, entryAt, isFault, isUnaccepted, placeFirst, coverFirst, placeBlocks, coverBlocks, blockTables}
+use Rattle.entries.proofs.Covers.{cover-some}
 use Rattle.rules.specs.Store.{blockBytes, blockWords}
 use Rattle.rules.specs.Tables.{astray}
 use Rattle.rules.specs.Guest.{Walk, stops, ends, passes, endsAt, secondEntry, follow, walk}
-use Rattle.rules.proofs.Walk.{size-above, place-within}
-use Rattle.guest.specs.Needs.{stopsOr, NumberAt, Sound}
+use Rattle.rules.proofs.Walk.{place-above, cover-within}
+use Rattle.guest.specs.Needs.{stopsOr, NumberAt, EndsFrom}
 
--- the entry has its place among the n blocks from B on
+-- the entry covers blocks, all of them among the n from B on
 pub record Inside (B n : ℕ) (e : Entry) : Type 0 where
-  pub sized : 0 < size e
-  pub low : B ≤ first e
-  pub high : first e + size e ≤ B + n
+  pub sized : 0 < coverBlocks e
+  pub low : B ≤ coverFirst e
+  pub high : coverFirst e + coverBlocks e ≤ B + n
 
--- what holds of both stops, and of what follows an entry whose place is inside, holds of the walk at an entry
+-- what holds of both stops, and of what follows an entry inside, holds of the walk at an entry
 passes-cases : (P : Walk → Type 0) (v : Level) (B n : ℕ) (e : Entry) (onward : Walk) → P (stops v 24) → P (stops v 22) → (Inside B n e → P onward)
     → P (passes v B n e onward)
 unfolding passes
@@ -30,7 +31,7 @@ passes-cases P v B n e onward broken none on = go (isUnaccepted e) (astray B n e
   go false true f p q r = broken
   go false false true p q r = none
   go false false false p q r =
-      let z = size-above e p r in let (low, high) = place-within B n e z q in on (record { sized = z; low = low; high = high })
+      let z = place-above e p r in let (low, high) = cover-within B n e z q in on (record { sized = cover-some e z; low = low; high = high })
 
 -- The number at an entry
 
@@ -50,7 +51,7 @@ goes-on-inside B n e d z = passes-cases (λ w. w ≡ stops l1 0 → Inside B n e
 
 -- the L2 table of a link from which a walk goes on
 pub table-inside : {k : ℕ} (B n place : ℕ) → NumberAt B n (link place) k → k ≡ 0 → (blockTables * B ≤ place) × (place < blockTables * (B + n))
-unfolding first size
+unfolding coverFirst placeFirst coverBlocks placeBlocks
 table-inside B n place d z = let i = goes-on-inside B n (link place) d z in (omega arith, omega arith)
 
 -- A walk's end
@@ -60,10 +61,10 @@ unfoldable pub InRegion : ℕ → ℕ → Walk → Type 0
 InRegion B n (stops v k) = 0 < k
 InRegion B n (ends v p r) = (B ≤ p) × (p < B + n)
 
-pub sound : (B n : ℕ) (w : Walk) → InRegion B n w → Sound B w
-unfolding InRegion Sound
-sound B n (stops v k) i = i
-sound B n (ends v p r) i = i .0
+pub ends-from : (B n : ℕ) (w : Walk) → InRegion B n w → EndsFrom B w
+unfolding InRegion EndsFrom
+ends-from B n (stops v k) i = tt
+ends-from B n (ends v p r) i = i .0
 
 module _ (B n addr : ℕ) where
   at-entry : (v : Level) (e : Entry) (onward : Walk) → (Inside B n e → InRegion B n onward) → InRegion B n (passes v B n e onward)

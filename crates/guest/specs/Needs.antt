@@ -6,8 +6,7 @@ use lib.ListN.{length}
 use Rattle.entries.specs.Entries.{Entry, Level}
 use Rattle.rules.specs.Store.{blockBytes, physicalBlocks}
 use Rattle.rules.specs.Guest.{Walk, stops, ends, passes}
-use Rattle.guest.specs.declared.access.Verdict.{Verdict}
-use Rattle.guest.specs.declared.access.Verdict.the-variants.{Refused, Allowed}
+use Rattle.guest.specs.Meaning.{Verdict, refused, stopped, allowed}
 
 -- the memory is n blocks from physical block B on
 pub record Region (memory : List ℕ) (B n : ℕ) : Type 0 where
@@ -23,12 +22,13 @@ stopsOr v (suc k) onward = stops v (suc k)
 abbrev pub NumberAt : ℕ → ℕ → Entry → ℕ → Type 0
 NumberAt B n e k = (v : Level) (onward : Walk) → passes v B n e onward ≡ stopsOr v k onward
 
--- a walk stops with a refusal's number, or ends in a block from B on
-unfoldable pub Sound : ℕ → Walk → Type 0
-Sound B (stops v k) = 0 < k
-Sound B (ends v p r) = B ≤ p
+-- if the walk ends, it does so in a block from B on
+unfoldable pub EndsFrom : ℕ → Walk → Type 0
+EndsFrom B (stops v k) = Unit {0}
+EndsFrom B (ends v p r) = B ≤ p
 
 -- the byte that a verdict allows lies in the memory
 unfoldable pub InMemory : List ℕ → Verdict → Type 0
-InMemory memory (Refused k) = Unit {0}
-InMemory memory (Allowed j) = j < length memory
+InMemory memory (refused k) = Unit {0}
+InMemory memory (stopped v k) = Unit {0}
+InMemory memory (allowed j) = j < length memory

@@ -1,6 +1,9 @@
 // The guest's accesses: all is judged before the byte is read or stored.
 use crate::walk::Walk;
 use crate::walk::walk_tables;
+use entries::entry::Level;
+use entries::rights::Right;
+use entries::rights::allows;
 use ledger::layout::BLOCK_BYTES;
 use ledger::layout::active;
 use ledger::layout::base;
@@ -11,19 +14,18 @@ use ledger::refusals::RIGHT_LACKING;
 use ledger::region::blocks;
 use ledger::region::is_misfit_stored;
 use ledger::region::is_outside;
-use ledger::rights::Right;
-use ledger::rights::allows;
 use ledger::table::L1_BLOCKS;
 ghost use mathlib.Core.Bool.{_||_};
 ghost use mathlib.Core.Path.{_≡_};
 ghost use Prim.Native.Nat.{_+_, _≤_};
 ghost use Rattle.entries.specs.Entries.{l1};
+ghost use Rattle.entries.specs.Rights.{allows};
 ghost use Rattle.rules.specs.General.{misaligned};
 ghost use Rattle.rules.specs.Guest.{fetches, guestOutcome, needed, reads, writes};
 ghost use Rattle.rules.specs.Store.{lent, outside, physicalBlocks};
-ghost use Rattle.rules.specs.Tables.{allows, tableBlocks};
-ghost use Rattle.guest.specs.Meaning.{accessOf, answerIn, arrived, byteIn, judged, memoryIn, walkOf};
-ghost use Rattle.guest.specs.Needs.{InMemory, Sound};
+ghost use Rattle.rules.specs.Tables.{tableBlocks};
+ghost use Rattle.guest.specs.Meaning.{accessOf, answerIn, arrived, byteIn, judged, memoryIn, verdictOf, walkOf};
+ghost use Rattle.guest.specs.Needs.{EndsFrom, InMemory};
 
 enum Access {
     Read,
@@ -32,9 +34,12 @@ enum Access {
     Write(u32),
 }
 
-// A refusal with its number, or the place in memory of the byte to be read or stored.
 enum Verdict {
+    // A refusal before the walk.
     Refused(u32),
+    // A refusal along the walk, at an entry of a level.
+    Stopped { number: u32, level: Level },
+    // The place in memory of the byte to be read or stored.
     Allowed(usize),
 }
 
@@ -61,28 +66,31 @@ fn is_no_table(first: u32, n: usize, table: u32) -> bool
 
 // "at the end 23 if the right is lacking"
 fn arrive(walk: Walk, access: Access, first: u32, address: u32) -> Verdict
-    requires { ⌜ Sound first (walkOf walk) ⌝ }
-    ensures { λ r. ⌜ r ≡ arrived (accessOf access) first address (walkOf walk) ⌝ }
+    requires { ⌜ EndsFrom first (walkOf walk) ⌝ }
+    ensures { λ r. ⌜ verdictOf r ≡ arrived (accessOf access) first address (walkOf walk) ⌝ }
 {
     match walk {
-        Walk::Stops { level: _, number } => Verdict::Refused(number),
+        Walk::Stops { number, level } => Verdict::Stopped { number, level },
         Walk::Ends {
-            level: _,
             block,
             rights,
+            level,
         } => {
             if is_allowed(access, rights) {
                 return Verdict::Allowed(
                     BLOCK_BYTES * (block - first) as usize + address as usize % BLOCK_BYTES,
                 );
             }
-            Verdict::Refused(RIGHT_LACKING)
+            Verdict::Stopped {
+                number: RIGHT_LACKING,
+                level,
+            }
         }
     }
 }
 
 fn judge(memory: &[u8], ledger: &[u8], access: Access, address: u32) -> Verdict
-    ensures { λ r. ⌜ r ≡ judged (accessOf access) (lent (now (memory .entry)) (now (ledger .entry))) address ⌝ }
+    ensures { λ r. ⌜ verdictOf r ≡ judged (accessOf access) (lent (now (memory .entry)) (now (ledger .entry))) address ⌝ }
 {
     if is_misfit_stored(memory, ledger) {
         return Verdict::Refused(MISFIT);
@@ -103,12 +111,12 @@ fn judge(memory: &[u8], ledger: &[u8], access: Access, address: u32) -> Verdict
 
 // Gives the byte, or 0 with a refusal.
 fn give(verdict: Verdict, memory: &[u8], byte: &mut u8) -> u32
-    requires { ⌜ InMemory (now memory) verdict ⌝ }
-    ensures { λ r. ⌜ r ≡ answerIn verdict ⌝ }
-    ensures { λ r. ⌜ now (byte .exit) ≡ byteIn reads (now (memory .entry)) verdict ⌝ }
+    requires { ⌜ InMemory (now memory) (verdictOf verdict) ⌝ }
+    ensures { λ r. ⌜ r ≡ answerIn (verdictOf verdict) ⌝ }
+    ensures { λ r. ⌜ now (byte .exit) ≡ byteIn reads (now (memory .entry)) (verdictOf verdict) ⌝ }
 {
     match verdict {
-        Verdict::Refused(number) => {
+        Verdict::Refused(number) | Verdict::Stopped { number, level: _ } => {
             *byte = 0;
             number
         }
@@ -121,12 +129,12 @@ fn give(verdict: Verdict, memory: &[u8], byte: &mut u8) -> u32
 
 // Stores the low 8 bits of the byte.
 fn store(verdict: Verdict, memory: &mut [u8], byte: u32) -> u32
-    requires { ⌜ InMemory (now memory) verdict ⌝ }
-    ensures { λ r. ⌜ r ≡ answerIn verdict ⌝ }
-    ensures { λ r. ⌜ now (memory .exit) ≡ memoryIn (writes byte) (now (memory .entry)) verdict ⌝ }
+    requires { ⌜ InMemory (now memory) (verdictOf verdict) ⌝ }
+    ensures { λ r. ⌜ r ≡ answerIn (verdictOf verdict) ⌝ }
+    ensures { λ r. ⌜ now (memory .exit) ≡ memoryIn (writes byte) (now (memory .entry)) (verdictOf verdict) ⌝ }
 {
     match verdict {
-        Verdict::Refused(number) => number,
+        Verdict::Refused(number) | Verdict::Stopped { number, level: _ } => number,
         Verdict::Allowed(at) => {
             memory[at] = (byte % 0x100) as u8;
             ACCEPTED

@@ -23,16 +23,17 @@ ghost use Rattle.guest.specs.Needs.{NumberAt, Region};
 
 const L2_WORDS: usize = 256;
 
-// A walk stops at an entry of a level with a number, or ends at an entry of a level in a block, with the entry's rights.
+// At an entry of a level a walk stops with a number, or ends in a block with the entry's rights. The level stands last: with it first the compiler keeps
+// a walk in memory, not in registers.
 pub enum Walk {
     Stops {
-        level: Level,
         number: u32,
+        level: Level,
     },
     Ends {
-        level: Level,
         block: u32,
         rights: u32,
+        level: Level,
     },
 }
 
@@ -60,12 +61,12 @@ fn ends_at(level: Level, e: Entry, first: u32, n: usize, address: u32) -> Walk
 {
     let number = stop_number(e, first, n);
     if number != ACCEPTED {
-        return Walk::Stops { level, number };
+        return Walk::Stops { number, level };
     }
     Walk::Ends {
-        level,
-        block: entry::first(e) + address / (BLOCK_BYTES as u32) % entry::size(e),
+        block: entry::cover_first(e) + address / (BLOCK_BYTES as u32) % entry::cover_blocks(e),
         rights: entry::rights(e),
+        level,
     }
 }
 
@@ -77,8 +78,8 @@ fn through_link(place: u32, memory: &[u8], first: u32, n: usize, address: u32) -
     let number = stop_number(Entry::Link(place), first, n);
     if number != ACCEPTED {
         return Walk::Stops {
-            level: Level::L1,
             number,
+            level: Level::L1,
         };
     }
     let table = (place - BLOCK_TABLES * first) as usize;

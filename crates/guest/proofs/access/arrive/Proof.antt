@@ -1,27 +1,25 @@
--- A walk that stopped has its number; at the end of another the right decides.
+-- A walk that stopped has its level and number; at the end of another the right decides.
 use borrow.Author.Needs.{needs}
-use Rattle.rules.specs.Refusals.{answerOf}
-use Rattle.rules.specs.Guest.{byteIndex, walkRefusals}
-use Rattle.guest.specs.Meaning.{verdict}
-use Rattle.guest.specs.Needs.{Sound}
-use Rattle.guest.proofs.Verdicts.{refused}
+use Rattle.rules.specs.Guest.{byteIndex}
+use Rattle.guest.specs.Meaning.{arrived}
+use Rattle.guest.specs.Needs.{EndsFrom}
 use Rattle.guest.proofs.access.arrive.Statement.{statement}
 use Rattle.guest.proofs.access.arrive.Tie as tie
 
-sub-t10 : tie.Need-sub-t10
-unfolding Sound
-sub-t10 c = rw (c .before .before .before .walk2 .given .1) at (c .before .before .before .before .before .pre)
+sub-t12 : tie.Need-sub-t12
+unfolding EndsFrom
+sub-t12 c = rw (c .before .before .before .walk2 .given .1) at (c .before .before .before .before .before .pre)
 
 returns : tie.Need-returns
-unfolding verdict answerOf byteIndex walkRefusals
+unfolding arrived byteIndex
 returns c = rw (c .before .before .before .walk2 .given .1, ← c .before .is-allowed .ensures, c .if1 .taken)
 
 returns-2 : tie.Need-returns-2
-unfolding Sound answerOf byteIndex walkRefusals
-returns-2 c = rw (c .before .walk .given .1) (refused _ _ (rw (c .before .walk .given .1) at (c .before .before .before .pre)))
+unfolding arrived
+returns-2 c = rw (c .before .walk .given .1)
 
 returns-3 : tie.Need-returns-3
-unfolding verdict answerOf byteIndex walkRefusals
+unfolding arrived
 returns-3 c = rw (c .before .before .before .walk2 .given .1, ← c .before .is-allowed .ensures, c .if1 .left)
 
 pub arrive-spec : {M : Type 1} → statement M
@@ -31,7 +29,7 @@ arrive-spec =
     (search needs)
     (search needs)
     (search needs)
-    sub-t10
+    sub-t12
     (search needs)
     (search needs)
     (search needs)

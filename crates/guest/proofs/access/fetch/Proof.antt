@@ -1,6 +1,6 @@
 -- What follows from the verdict is the rules' outcome.
-use borrow.Author.Needs.{needs}
 use mathlib.Core.Path.{refl, _∙_}
+use borrow.Author.Needs.{needs}
 use Rattle.rules.specs.Guest.{fetches, written}
 use Rattle.guest.proofs.Verdicts.{in-memory, outcome-is, fetch-byte, kept}
 use Rattle.guest.proofs.access.fetch.Statement.{statement}

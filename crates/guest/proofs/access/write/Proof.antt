@@ -1,6 +1,6 @@
 -- What follows from the verdict is the rules' outcome.
-use borrow.Author.Needs.{needs}
 use mathlib.Core.Path.{refl}
+use borrow.Author.Needs.{needs}
 use Rattle.rules.specs.Guest.{writes}
 use Rattle.guest.proofs.Verdicts.{in-memory, outcome-is}
 use Rattle.guest.proofs.access.write.Statement.{statement}

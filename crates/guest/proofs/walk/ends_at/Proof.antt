@@ -1,9 +1,9 @@
 -- A walk goes on only from an entry whose place is in the region, so its place has blocks, with numbers that fit a word.
-use borrow.Author.Needs.{needs}
 use mathlib.Core.Path.{sym, _∙_}
 use Prim.Native.Nat.{_/_, _<_}
 use native.Mathlib.Nat.{mod-lt}
 use native.Mathlib.Omega.{arith}
+use borrow.Author.Needs.{needs}
 use Rattle.entries.specs.Meaning.{meaning}
 use Rattle.rules.specs.Store.{blockBytes}
 use Rattle.guest.proofs.Walking.{stopsOr-stops, stopsOr-onward, goes-on-inside}
@@ -22,10 +22,10 @@ add-t13 : tie.Need-add-t13
 add-t13 c =
     let a = c .before .before .before .before .args in
     let i = goes-on-inside (a .first) (a .n) (meaning (a .e)) (c .before .before .before .stop-number .ensures) (c .before .before .if1 .left) in
-    let some : 0 < c .size .result = omega arith in omega (arith, mod-lt (a .address / blockBytes) some)
+    let some : 0 < c .cover-blocks .result = omega arith in omega (arith, mod-lt (a .address / blockBytes) some)
 
 returns-2 : tie.Need-returns-2
-returns-2 c = rw (c .before .before .first .ensures, c .before .size .ensures, c .rights .ensures) (sym (c .before .before .before .before .stop-number .ensures _ _ ∙ stopsOr-onward _ _ (c .before .before .before .if1 .left)))
+returns-2 c = rw (c .before .before .cover-first .ensures, c .before .cover-blocks .ensures, c .rights .ensures) (sym (c .before .before .before .before .stop-number .ensures _ _ ∙ stopsOr-onward _ _ (c .before .before .before .if1 .left)))
 
 pub ends-at-spec : {M : Type 1} → statement M
 ends-at-spec =

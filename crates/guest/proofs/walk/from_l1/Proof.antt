@@ -1,17 +1,17 @@
 -- Of the entries of an L1 table only a link leads further.
-use borrow.Author.Needs.{needs}
 use mathlib.Core.Path.{_≡_, sym, refl, ap, _∙_}
 use mathlib.Core.List.{List, [], _∷_}
 use mathlib.Core.Logic.{inl, inr}
 use Prim.Native.Nat.{ℕ}
 use native.Mathlib.Omega.{arith}
+use borrow.Author.Needs.{needs}
 use denote.Enum.Declared.{tagOf}
 use types.Run.{OneOf}
-use Rattle.entries.proofs.entry.Entry.{the-type}
 use Rattle.entries.specs.declared.entry.Entry.{Entry}
 use Rattle.entries.specs.declared.entry.Entry.the-variants.{Fault, Unaccepted, Link, Section, Page}
 use Rattle.entries.specs.Entries.{l1}
 use Rattle.entries.specs.Meaning.{meaning}
+use Rattle.entries.proofs.entry.Entry.{the-type}
 use Rattle.rules.specs.Guest.{endsAt, follow, passes}
 use Rattle.guest.proofs.walk.from_l1.Statement.{statement}
 use Rattle.guest.proofs.walk.from_l1.Tie as tie

@@ -1,7 +1,7 @@
 -- The walk goes on only from a link into the region, so the entry of its L2 table lies in the memory.
-use borrow.Author.Needs.{needs}
 use mathlib.Core.Path.{sym, _∙_}
 use native.Mathlib.Omega.{arith}
+use borrow.Author.Needs.{needs}
 use Rattle.rules.specs.Guest.{follow}
 use Rattle.guest.proofs.Walking.{stopsOr-stops, stopsOr-onward, table-inside}
 use Rattle.guest.proofs.walk.through_link.Statement.{statement}
