@@ -2,3 +2,4 @@ pub mod Linking
 pub mod Mappings
 pub mod Slots
 pub mod Unmapping
+pub mod Windows

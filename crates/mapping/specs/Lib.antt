@@ -1,3 +1,3 @@
-pub mod Forms
+pub mod Meaning
+pub mod Needs
 pub mod Pieces
-pub mod Slots

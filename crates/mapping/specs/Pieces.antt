@@ -1,12 +1,13 @@
--- The pieces of the rules' lists of refusals that have a function of their own: what inner functions owe each other. The calls' promises cite the rules' whole lists.
-use mathlib.Core.List.{List, [], _∷_}
+-- Parts of the rules' lists of refusals that have a function of their own. The calls' promises cite the whole lists.
+use mathlib.Core.Bool.{not}
+use mathlib.Core.List.{List, [], _∷_, _++_}
 use Prim.Native.Nat.{ℕ}
-use Rattle.words.specs.Bounded.{neqb}
-use Rattle.entries.specs.Entries.{Entry, Level, l2, isUnaccepted}
+use Rattle.words.specs.Bounded.{any, neqb}
+use Rattle.entries.specs.Entries.{Entry, Level, l2}
 use Rattle.rules.specs.Refusals.{Refusal, _if_}
 use Rattle.rules.specs.Store.{Store, base, blocks, typeOf, misfit}
-use Rattle.rules.specs.Signature.{misfitImage}
-use Rattle.rules.specs.Tables.{typeCode, tableBlocks, Form, level, covered, mapping, astray}
+use Rattle.rules.specs.Signature.{imageRefusals}
+use Rattle.rules.specs.Tables.{typeCode, tableBlocks, Form, level, targetBlocks, mappingWords, mapping, takes, astray}
 use Rattle.rules.specs.General.{otherType, executableHolder, tableOutside, misaligned, beyondTable, someOverrun, added, removed}
 use Rattle.rules.specs.Link.{linkTo}
 use Rattle.rules.specs.Map.{unfitTarget, clashingTarget, unsignedTarget}
@@ -15,27 +16,28 @@ use Rattle.rules.specs.Map.{unfitTarget, clashingTarget, unsignedTarget}
 abbrev pub holderRefusals : Level → Store → ℕ → ℕ → List Refusal
 holderRefusals v s p i = 5 if otherType v s p (typeCode v) ∷ 7 if executableHolder s p i ∷ []
 
--- the place of an entry
-abbrev pub slotRefusals : Level → Store → ℕ → ℕ → List Refusal
-slotRefusals v s p i =
-    1 if misfit s (base s) ∷ 2 if tableOutside v s p ∷ 3 if misaligned p (tableBlocks v) ∷ 4 if beyondTable v i ∷ holderRefusals v s p i
+-- the words that unmap takes
+abbrev pub slotRefusals : Form → Store → ℕ → ℕ → List Refusal
+slotRefusals f s p i =
+    1 if misfit s (base s) ∷ 2 if tableOutside (level f) s p ∷ 3 if misaligned p (tableBlocks (level f)) ∷ 3 if misaligned i (mappingWords f) ∷ 4 if beyondTable (level f) i
+    ∷ holderRefusals (level f) s p i
 
--- the entry that unmap removes
-abbrev pub removalRefusals : Store → Entry → List Refusal
-removalRefusals s e = 8 if isUnaccepted e ∷ 10 if astray (base s) (blocks s) e ∷ 13 if someOverrun removed s 1 (λ k. e) ∷ []
+-- and the entries x in them
+abbrev pub removalRefusals : Form → Store → (ℕ → Entry) → List Refusal
+removalRefusals f s x =
+    8 if any (mappingWords f) (λ k. not (takes f (x k))) ∷ 10 if any (mappingWords f) (λ k. astray (base s) (blocks s) (x k)) ∷ 13 if someOverrun removed s (mappingWords f) x ∷ []
 
 -- the table to which a link leads
 abbrev pub linkTargetRefusals : Store → ℕ → ℕ → List Refusal
 linkTargetRefusals s t j = 10 if tableOutside l2 s t ∷ 10 if neqb (typeOf s t) (typeCode l2) ∷ 13 if someOverrun added s 1 (λ k. linkTo t j) ∷ []
 
--- what a mapping asks of the table and the index
+-- what a mapping asks of the table, the target's alignment and the index
 abbrev pub mapPlaceRefusals : Form → List ℕ → Store → ℕ → ℕ → ℕ → List Refusal
 mapPlaceRefusals f golden s p i t =
-    1 if misfit s (base s) ∷ 1 if misfitImage golden ∷ 2 if tableOutside (level f) s p ∷ 3 if misaligned p (tableBlocks (level f))
-    ∷ 3 if misaligned t (covered f) ∷ 4 if beyondTable (level f) i ∷ []
+    1 if misfit s (base s) ∷ imageRefusals golden ++ 2 if tableOutside (level f) s p ∷ 3 if misaligned p (tableBlocks (level f))
+    ∷ 3 if misaligned t (targetBlocks f) ∷ 3 if misaligned i (mappingWords f) ∷ 4 if beyondTable (level f) i ∷ []
 
 -- and of its target
 abbrev pub mapTargetRefusals : Form → List ℕ → Store → ℕ → ℕ → ℕ → ℕ → List Refusal
 mapTargetRefusals f golden s p i t r =
-    10 if unfitTarget f s p i t r ∷ 11 if clashingTarget f s t r ∷ 12 if unsignedTarget f golden s t r
-    ∷ 13 if someOverrun added s 1 (λ k. mapping f t r) ∷ []
+    10 if unfitTarget f s p i t r ∷ 11 if clashingTarget f s t r ∷ 12 if unsignedTarget f golden s t r ∷ 13 if someOverrun added s (mappingWords f) (mapping f t r) ∷ []

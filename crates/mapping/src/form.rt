@@ -6,12 +6,17 @@ use entries::entry::Entry;
 use entries::entry::Level;
 use entries::entry::Mapping;
 use entries::entry::SECTION_BLOCKS;
+use entries::entry::is_fault;
+use entries::entry::is_link;
+use entries::entry::is_page;
+use entries::entry::is_section;
 ghost use mathlib.Core.Path.{_≡_};
-ghost use Prim.Native.Nat.{_%_, _^_, _<_, _≤_};
+ghost use Prim.Native.Nat.{_%_, _^_, _<_};
 ghost use Rattle.entries.specs.Meaning.{levelOf, meaning};
 ghost use Rattle.entries.specs.Written.{cacheable, wordOf};
 ghost use Rattle.rules.specs.Tables as tables;
-ghost use Rattle.mapping.specs.Forms.{formOf};
+ghost use Rattle.mapping.specs.Meaning.{formOf};
+ghost use Rattle.mapping.specs.Needs.{Positive};
 
 pub enum Form {
     Sections,
@@ -28,8 +33,8 @@ pub fn level(form: Form) -> Level
 }
 
 // The blocks of a target, of which its first block is a multiple.
-pub fn covered(form: Form) -> u32
-    ensures { λ r. ⌜ (r ≡ tables.covered (formOf form)) × (0 < r) × (r ≤ 256) ⌝ }
+pub fn target_blocks(form: Form) -> u32
+    ensures { λ r. ⌜ Positive (tables.targetBlocks (formOf form)) 257 r ⌝ }
 {
     match form {
         Form::Sections => SECTION_BLOCKS,
@@ -37,9 +42,19 @@ pub fn covered(form: Form) -> u32
     }
 }
 
-// The entry that maps these rights onto the target.
+// The words of a table that a mapping takes, of which its index is a multiple.
+pub fn mapping_words(form: Form) -> u32
+    ensures { λ r. ⌜ Positive (tables.mappingWords (formOf form)) 1025 r ⌝ }
+{
+    match form {
+        Form::Sections => 1,
+        Form::Pages => 1,
+    }
+}
+
+// The entry of the first word of a mapping of these rights onto the target.
 pub fn mapping(form: Form, target: u32, rights: u32) -> Entry
-    ensures { λ r. ⌜ meaning r ≡ tables.mapping (formOf form) target rights ⌝ }
+    ensures { λ r. ⌜ meaning r ≡ tables.mapping (formOf form) target rights 0 ⌝ }
 {
     match form {
         Form::Sections => Entry::Section(Mapping {
@@ -55,11 +70,24 @@ pub fn mapping(form: Form, target: u32, rights: u32) -> Entry
 
 // The word of that entry.
 pub fn mapping_word(form: Form, target: u32, rights: u32) -> u32
-    requires { ⌜ (target < 2 ^ 20) × (target % tables.covered (formOf form) ≡ 0) ⌝ }
-    ensures { λ r. ⌜ r ≡ wordOf cacheable (tables.mapping (formOf form) target rights) ⌝ }
+    requires { ⌜ (target < 2 ^ 20) × (target % tables.targetBlocks (formOf form) ≡ 0) ⌝ }
+    ensures { λ r. ⌜ r ≡ wordOf cacheable (tables.mapping (formOf form) target rights 0) ⌝ }
 {
     match form {
         Form::Sections => section_word(CACHEABLE, target, rights),
         Form::Pages => page_word(CACHEABLE, target, rights),
+    }
+}
+
+// The form's unmap takes the entry away.
+pub fn takes(form: Form, e: Entry) -> bool
+    ensures { λ r. ⌜ r ≡ tables.takes (formOf form) (meaning e) ⌝ }
+{
+    if is_fault(e) {
+        return true;
+    }
+    match form {
+        Form::Sections => is_section(e) || is_link(e),
+        Form::Pages => is_page(e),
     }
 }

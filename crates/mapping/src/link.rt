@@ -1,17 +1,17 @@
 // Link with L1 block, index, target block and table.
-use crate::slot::entry_in;
 use crate::slot::holder_refusal;
-use crate::slot::write_entry;
+use crate::slot::is_occupied;
+use crate::slot::write_entries;
 use entries::encode::link_word;
 use entries::entry::BLOCK_TABLES;
 use entries::entry::Entry;
 use entries::entry::Level;
-use entries::entry::is_fault;
 use ledger::counters::Change;
-use ledger::counters::entry_overruns;
+use ledger::counters::blocks_overrun;
 use ledger::layout::TYPE;
 use ledger::layout::TYPE_L2;
 use ledger::layout::base;
+use ledger::layout::record_of;
 use ledger::layout::record_word;
 use ledger::refusals::ACCEPTED;
 use ledger::refusals::BEYOND_TABLE;
@@ -30,24 +30,28 @@ ghost use Rattle.entries.specs.Entries.{blockTables};
 ghost use Rattle.rules.specs.Refusals.{answerOf};
 ghost use Rattle.rules.specs.Store.{lent};
 ghost use Rattle.rules.specs.Link.{linkOutcome, linkRefusals};
-ghost use Rattle.ledger.specs.Lent.{Fits};
+ghost use Rattle.ledger.specs.Needs.{Fits};
 ghost use Rattle.mapping.specs.Pieces.{linkTargetRefusals};
+
+// The blocks and the words of a link.
+const LINK_BLOCKS: u32 = 1;
+
+const LINK_WORDS: u32 = 1;
 
 // Refusals 10 and 13 of the table to be linked.
 fn link_target_refusal(memory: &[u8], ledger: &[u8], target: u32, table: u32) -> u32
     requires { ⌜ Fits (now memory) (now ledger) × (table < blockTables) ⌝ }
     ensures { λ r. ⌜ r ≡ answerOf (linkTargetRefusals (lent (now (memory .entry)) (now (ledger .entry))) target table) ⌝ }
 {
-    let first = base(ledger);
-    if is_outside(first, blocks(memory), target, 1) {
+    if is_outside(base(ledger), blocks(memory), target, LINK_BLOCKS) {
         return UNFIT_TARGET;
     }
-    let b = target - first;
-    if record_word(ledger, TYPE, b as usize) != TYPE_L2 {
+    let b = record_of(ledger, target);
+    if record_word(ledger, TYPE, b) != TYPE_L2 {
         return UNFIT_TARGET;
     }
     let e = Entry::Link(BLOCK_TABLES * target + table);
-    if entry_overruns(Change::Added, memory, ledger, e) {
+    if blocks_overrun(Change::Added, memory, ledger, e, target, LINK_BLOCKS) {
         return OVERRUN;
     }
     ACCEPTED
@@ -80,7 +84,7 @@ fn link_refusal(
     if holder != ACCEPTED {
         return holder;
     }
-    if !is_fault(entry_in(Level::L1, memory, ledger, block, index)) {
+    if is_occupied(Level::L1, memory, ledger, block, index, LINK_WORDS) {
         return WRONG_ENTRY;
     }
     link_target_refusal(memory, ledger, target, table)
@@ -104,14 +108,17 @@ pub fn link(
     }
     let place = BLOCK_TABLES * target + table;
     let w = link_word(place);
-    write_entry(
+    write_entries(
         Change::Added,
         memory,
         ledger,
         block,
         index,
-        Entry::Link(place),
+        LINK_WORDS,
         w,
+        Entry::Link(place),
+        target,
+        LINK_BLOCKS,
     );
     ACCEPTED
 }

@@ -1,12 +1,14 @@
-// The word of a table in which an entry stands.
+// The words of a table in which the entries of a mapping or a link stand.
 use entries::decode::entry_at;
 use entries::entry::Entry;
 use entries::entry::Level;
+use entries::entry::is_fault;
 use ledger::counters::Change;
-use ledger::counters::change_entry;
+use ledger::counters::change_blocks;
 use ledger::layout::BLOCK_WORDS;
 use ledger::layout::EXECUTABLE;
 use ledger::layout::base;
+use ledger::layout::record_of;
 use ledger::layout::record_word;
 use ledger::refusals::ACCEPTED;
 use ledger::refusals::EXECUTABLE_HOLDER;
@@ -15,20 +17,22 @@ use ledger::table::is_other_type;
 use ledger::table::table_type;
 use words::WORD_BYTES;
 use words::put_word;
-ghost use mathlib.Core.Bool.{false};
 ghost use mathlib.Core.Path.{_≡_};
-ghost use Prim.Native.Nat.{_+_, _-_, _*_, _^_, _<_, _≤_};
+ghost use Prim.Native.Nat.{ℕ, _+_, _-_, _*_, _^_, _<_, _≤_};
 ghost use lib.ListN.{length};
 ghost use Rattle.words.specs.Words.{word};
+ghost use Rattle.entries.specs.Entries as specified;
 ghost use Rattle.entries.specs.Meaning.{levelOf, meaning};
 ghost use Rattle.rules.specs.Refusals.{answerOf};
 ghost use Rattle.rules.specs.Store as store;
-ghost use Rattle.rules.specs.Store.{base as storedBase, basePlace, blockWords, blocks, fill, ledgerHeadBytes, lent};
-ghost use Rattle.rules.specs.Tables.{astray, tableEntry, wordIndex};
-ghost use Rattle.rules.specs.General.{recounted};
-ghost use Rattle.ledger.specs.Counters.{Countable, changeOf};
+ghost use Rattle.rules.specs.Store.{basePlace, blockWords, fill, ledgerHeadBytes, lent};
+ghost use Rattle.rules.specs.Tables.{tableEntry, wordIndex};
+ghost use Rattle.rules.specs.General.{occupied, recounted};
+ghost use Rattle.ledger.specs.Counters.{Spreads};
+ghost use Rattle.ledger.specs.Meaning.{changeOf};
+ghost use Rattle.ledger.specs.Needs.{Countable, GrantsInside};
+ghost use Rattle.mapping.specs.Needs.{InTable, Slot};
 ghost use Rattle.mapping.specs.Pieces.{holderRefusals};
-ghost use Rattle.mapping.specs.Slots.{InTable, Slot};
 
 // The place in the memory, in words, of an entry of the table at a block.
 fn word_index(ledger: &[u8], block: u32, index: u32) -> usize
@@ -53,31 +57,65 @@ pub fn holder_refusal(level: Level, memory: &[u8], ledger: &[u8], block: u32, in
     if is_other_type(level, memory, ledger, block, table_type(level)) {
         return WRONG_TYPE;
     }
-    let holder = block + index / BLOCK_WORDS;
-    let b = holder - base(ledger);
-    if 0 < record_word(ledger, EXECUTABLE, b as usize) {
+    let b = record_of(ledger, block + index / BLOCK_WORDS);
+    if 0 < record_word(ledger, EXECUTABLE, b) {
         return EXECUTABLE_HOLDER;
     }
     ACCEPTED
 }
 
-// Writes the word at an index, and adds the entry e to the counters or takes it away: the new entry, or the one that stood there.
-pub fn write_entry(
+// Some of the m entries from an index on is no fault.
+pub fn is_occupied(
+    level: Level,
+    memory: &[u8],
+    ledger: &[u8],
+    block: u32,
+    index: u32,
+    m: u32,
+) -> bool
+    requires { ⌜ Slot (lent (now memory) (now ledger)) block index m ⌝ }
+    ensures { λ r. ⌜ r ≡ occupied (levelOf level) (lent (now (memory .entry)) (now (ledger .entry))) block index m ⌝ }
+{
+    let j = word_index(ledger, block, index);
+    for k in 0..m as usize {
+        if !is_fault(entry_at(level, memory, j + k)) {
+            return true;
+        }
+    }
+    false
+}
+
+// The m words from word j on become w.
+fn fill_words(memory: &mut [u8], j: usize, m: usize, w: u32)
+    requires { ⌜ 4 * (j + m) ≤ length (now memory) ⌝ }
+    ensures { λ r. ⌜ now (memory .exit) ≡ fill (now (memory .entry)) j m (λ k. w) ⌝ }
+{
+    for k in 0..m {
+        put_word(memory, WORD_BYTES * (j + k), w);
+    }
+}
+
+// Writes the m words from an index on, and adds what the entry e grants to the blocks from p on, or takes it away: what the entries of these words give
+// that are new, or stood there.
+pub fn write_entries(
     change: Change,
     memory: &mut [u8],
     ledger: &mut [u8],
     block: u32,
     index: u32,
-    e: Entry,
+    m: u32,
     w: u32,
+    e: Entry,
+    p: u32,
+    n: u32,
 )
-    requires { ⌜ Slot (lent (now memory) (now ledger)) block index ⌝ }
-    requires { ⌜ astray (storedBase (lent (now memory) (now ledger))) (blocks (lent (now memory) (now ledger))) (meaning e) ≡ false ⌝ }
-    requires { ⌜ ((c : store.Counter) → Countable (changeOf change) (now ledger) c (meaning e)) ⌝ }
-    ensures { λ r. ⌜ now (memory .exit) ≡ fill (now (memory .entry)) (wordIndex (lent (now (memory .entry)) (now (ledger .entry))) block index) 1 w ⌝ }
-    ensures { λ r. ⌜ now (ledger .exit) ≡ recounted (changeOf change) (lent (now (memory .entry)) (now (ledger .entry))) 1 (λ k. meaning e) ⌝ }
+    requires { ⌜ Slot (lent (now memory) (now ledger)) block index m ⌝ }
+    requires { ⌜ GrantsInside (now memory) (now ledger) (meaning e) p n ⌝ }
+    requires { ⌜ ((c : store.Counter) → Countable (changeOf change) (now ledger) c (meaning e) p n) ⌝ }
+    ensures { λ r. ⌜ now (memory .exit) ≡ fill (now (memory .entry)) (wordIndex (lent (now (memory .entry)) (now (ledger .entry))) block index) m (λ k. w) ⌝ }
+    ensures { λ r. ⌜ ((l : ℕ) (x : ℕ → specified.Entry) → Spreads l x (meaning e) p n → now (ledger .exit) ≡ recounted (changeOf change) (lent (now (memory .entry)) (now (ledger .entry))) l x) ⌝ }
 {
     let j = word_index(ledger, block, index);
-    change_entry(change, memory, ledger, e);
-    put_word(memory, WORD_BYTES * j, w);
+    change_blocks(change, memory, ledger, e, p, n);
+    fill_words(memory, j, m as usize, w);
 }

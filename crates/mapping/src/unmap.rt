@@ -1,17 +1,20 @@
 // Unmap L1, unmap L2 with block and index.
 use crate::form::Form;
 use crate::form::level;
+use crate::form::mapping_words;
+use crate::form::takes;
 use crate::slot::entry_in;
 use crate::slot::holder_refusal;
-use crate::slot::write_entry;
+use crate::slot::write_entries;
 use entries::entry::Entry;
-use entries::entry::Level;
-use entries::entry::is_unaccepted;
+use entries::entry::place_blocks;
+use entries::entry::place_first;
 use ledger::counters::Change;
-use ledger::counters::entry_overruns;
+use ledger::counters::blocks_overrun;
 use ledger::layout::base;
 use ledger::refusals::ACCEPTED;
 use ledger::refusals::BEYOND_TABLE;
+use ledger::refusals::MISALIGNED;
 use ledger::refusals::MISFIT;
 use ledger::refusals::OVERRUN;
 use ledger::refusals::UNFIT_TARGET;
@@ -22,44 +25,58 @@ use ledger::region::is_misfit_stored;
 use ledger::table::place_refusal;
 use ledger::table::table_entries;
 ghost use mathlib.Core.Path.{_≡_};
-ghost use Rattle.entries.specs.Meaning.{levelOf, meaning};
+ghost use Prim.Native.Nat.{ℕ};
+ghost use Rattle.entries.specs.Entries as specified;
+ghost use Rattle.entries.specs.Meaning.{meaning};
 ghost use Rattle.rules.specs.Refusals.{answerOf};
 ghost use Rattle.rules.specs.Store.{lent};
 ghost use Rattle.rules.specs.Unmap.{unmapOutcome};
-ghost use Rattle.ledger.specs.Lent.{Fits};
-ghost use Rattle.mapping.specs.Forms.{formOf};
+ghost use Rattle.ledger.specs.Needs.{Fits};
+ghost use Rattle.mapping.specs.Meaning.{formOf};
+ghost use Rattle.mapping.specs.Needs.{SpeaksFor};
 ghost use Rattle.mapping.specs.Pieces.{removalRefusals, slotRefusals};
 
 // "The word becomes 0"
 const FAULT_WORD: u32 = 0;
 
-// Refusals 8, 10 and 13 of the entry to be removed.
-fn removal_refusal(memory: &[u8], ledger: &[u8], e: Entry) -> u32
+// Refusals 8, 10 and 13 of the entries to be removed, by the first of them.
+fn removal_refusal(form: Form, memory: &[u8], ledger: &[u8], e: Entry) -> u32
     requires { ⌜ Fits (now memory) (now ledger) ⌝ }
-    ensures { λ r. ⌜ r ≡ answerOf (removalRefusals (lent (now (memory .entry)) (now (ledger .entry))) (meaning e)) ⌝ }
+    ensures { λ r. ⌜ ((x : ℕ → specified.Entry) → SpeaksFor (formOf form) (meaning e) x → r ≡ answerOf (removalRefusals (formOf form) (lent (now (memory .entry)) (now (ledger .entry))) x)) ⌝ }
 {
-    if is_unaccepted(e) {
+    if !takes(form, e) {
         return WRONG_ENTRY;
     }
     if is_astray(e, base(ledger), blocks(memory)) {
         return UNFIT_TARGET;
     }
-    if entry_overruns(Change::Removed, memory, ledger, e) {
+    if blocks_overrun(
+        Change::Removed,
+        memory,
+        ledger,
+        e,
+        place_first(e),
+        place_blocks(e),
+    ) {
         return OVERRUN;
     }
     ACCEPTED
 }
 
-// Refusals 1 to 7: lengths, the table, the index and the block that holds the entry.
-fn slot_refusal(level: Level, memory: &[u8], ledger: &[u8], block: u32, index: u32) -> u32
-    ensures { λ r. ⌜ r ≡ answerOf (slotRefusals (levelOf level) (lent (now (memory .entry)) (now (ledger .entry))) block index) ⌝ }
+// Refusals 1 to 7: lengths, the table, the index and the block that holds the entries.
+fn slot_refusal(form: Form, memory: &[u8], ledger: &[u8], block: u32, index: u32) -> u32
+    ensures { λ r. ⌜ r ≡ answerOf (slotRefusals (formOf form) (lent (now (memory .entry)) (now (ledger .entry))) block index) ⌝ }
 {
     if is_misfit_stored(memory, ledger) {
         return MISFIT;
     }
+    let level = level(form);
     let place = place_refusal(level, memory, ledger, block);
     if place != ACCEPTED {
         return place;
+    }
+    if index % mapping_words(form) != 0 {
+        return MISALIGNED;
     }
     if table_entries(level) <= index {
         return BEYOND_TABLE;
@@ -72,16 +89,26 @@ pub fn unmap(form: Form, memory: &mut [u8], ledger: &mut [u8], block: u32, index
     ensures { λ r. ⌜ r ≡ unmapOutcome (formOf form) (lent (now (memory .entry)) (now (ledger .entry))) block index .answer ⌝ }
     ensures { λ r. ⌜ lent (now (memory .exit)) (now (ledger .exit)) ≡ unmapOutcome (formOf form) (lent (now (memory .entry)) (now (ledger .entry))) block index .after ⌝ }
 {
-    let level = level(form);
-    let slot = slot_refusal(level, memory, ledger, block, index);
+    let slot = slot_refusal(form, memory, ledger, block, index);
     if slot != ACCEPTED {
         return slot;
     }
-    let e = entry_in(level, memory, ledger, block, index);
-    let removal = removal_refusal(memory, ledger, e);
+    let e = entry_in(level(form), memory, ledger, block, index);
+    let removal = removal_refusal(form, memory, ledger, e);
     if removal != ACCEPTED {
         return removal;
     }
-    write_entry(Change::Removed, memory, ledger, block, index, e, FAULT_WORD);
+    write_entries(
+        Change::Removed,
+        memory,
+        ledger,
+        block,
+        index,
+        mapping_words(form),
+        FAULT_WORD,
+        e,
+        place_first(e),
+        place_blocks(e),
+    );
     ACCEPTED
 }

@@ -1,13 +1,21 @@
 -- Each return is decided by the tests up to its own.
-use mathlib.Core.Path.{_∙_}
+use mathlib.Core.Bool.{false}
+use mathlib.Core.Path.{_≡_}
 use native.Mathlib.Omega.{arith}
-use Rattle.words.proofs.Bounded.{differ, same}
-use Rattle.rules.proofs.State.{fits, within}
-use Rattle.ledger.proofs.Judge.{decides, none, here, past, told}
-use Rattle.mapping.proofs.Linking.{link-astray}
 use borrow.Author.Needs.{needs}
+use Rattle.words.proofs.Bounded.{differ, same, told}
+use Rattle.entries.specs.Entries.{l2}
+use Rattle.rules.specs.Store.{lent}
+use Rattle.rules.specs.General.{tableOutside}
+use Rattle.rules.proofs.State.{fits, within}
+use Rattle.ledger.proofs.Judge.{decides, none, here, past}
+use Rattle.mapping.proofs.Linking.{link-spreads}
 use Rattle.mapping.proofs.link.link_target_refusal.Statement.{statement}
 use Rattle.mapping.proofs.link.link_target_refusal.Tie as tie
+
+-- the target is in the region
+inside : (c : tie.Else1) → tableOutside l2 (lent (c .before .before .before .before .before .before .args .memory .now) (c .before .before .before .before .before .before .args .ledger .now)) (c .before .before .before .before .before .before .args .target) ≡ false
+inside c = told (rw (c .before .before .before .base .ensures, c .before .before .blocks2 .ensures) at (c .before .is-outside .ensures)) (c .if1 .left)
 
 base-requires : tie.Need-base-requires
 base-requires c κs = let fit = fits _ _ (c .before .before .pre .0) in omega arith
@@ -16,66 +24,49 @@ is-outside-requires : tie.Need-is-outside-requires
 is-outside-requires c κs = let fit = fits _ _ (c .before .before .before .before .pre .0) in omega arith
 
 returns : tie.Need-returns
-returns c =
-    let outside-is = rw (c .before .before .before .base .ensures, c .before .before .blocks2 .ensures) at (c .before .is-outside .ensures) in
-    decides (here (told outside-is (c .if1 .taken)))
+returns c = decides (here (told (rw (c .before .before .before .base .ensures, c .before .before .blocks2 .ensures) at (c .before .is-outside .ensures)) (c .if1 .taken)))
 
-sub-b : tie.Need-sub-b
-sub-b c =
-    let outside-is = rw (c .before .before .before .base .ensures, c .before .before .blocks2 .ensures) at (c .before .is-outside .ensures) in
-    let (lo, hi) = within _ _ _ _ (told outside-is (c .if1 .left)) in
-    let fit = fits _ _ (c .before .before .before .before .before .before .pre .0) in
-    omega arith
+record-of-requires : tie.Need-record-of-requires
+record-of-requires c κs = let fit = fits _ _ (c .before .before .before .before .before .before .pre .0) in let t10 = inside (c) in (omega arith, within _ _ _ _ t10 .0)
 
 record-word-requires : tie.Need-record-word-requires
-record-word-requires c κs =
-    let outside-is = rw (c .before .before .before .base .ensures, c .before .before .blocks2 .ensures) at (c .before .is-outside .ensures) in
-    let (lo, hi) = within _ _ _ _ (told outside-is (c .if1 .left)) in
-    let fit = fits _ _ (c .before .before .before .before .before .before .pre .0) in
+record-word-requires c κs = let fit = fits _ _ (c .before .before .before .before .before .before .before .pre .0) in
+    let t10 = inside (c .before) in
+    let (lo, hi) = within _ _ _ _ t10 in
+    let b = c .record-of .ensures in
     omega arith
 
 returns-2 : tie.Need-returns-2
-returns-2 c =
-    let outside-is = rw (c .before .before .before .before .before .base .ensures, c .before .before .before .before .blocks2 .ensures) at (c .before .before .before .is-outside .ensures) in
-    decides
-    (past (told outside-is (c .before .before .if1 .left))
-    (here (differ _ _ (rw (c .before .record-word .ensures, c .before .before .before .before .before .base .ensures) at (c .if2 .taken)))))
+returns-2 c = decides
+    (past (inside (c .before .before .before))
+    (here (differ _ _ (rw (c .before .record-word .ensures, c .before .before .record-of .ensures .is) at (c .if2 .taken)))))
 
-mul-t10 : tie.Need-mul-t10
-mul-t10 c =
-    let outside-is = rw (c .before .before .before .before .before .base .ensures, c .before .before .before .before .blocks2 .ensures) at (c .before .before .before .is-outside .ensures) in
-    let (lo, hi) = within _ _ _ _ (told outside-is (c .before .before .if1 .left)) in
-    let fit = fits _ _ (c .before .before .before .before .before .before .before .before .pre .0) in
+mul-t8 : tie.Need-mul-t8
+mul-t8 c = let fit = fits _ _ (c .before .before .before .before .before .before .before .before .before .pre .0) in
+    let (lo, hi) = within _ _ _ _ (inside (c .before .before .before)) in
     omega arith
 
-add-t12 : tie.Need-add-t12
-add-t12 c =
-    let outside-is = rw (c .before .before .before .before .before .base .ensures, c .before .before .before .before .blocks2 .ensures) at (c .before .before .before .is-outside .ensures) in
-    let (lo, hi) = within _ _ _ _ (told outside-is (c .before .before .if1 .left)) in
-    let fit = fits _ _ (c .before .before .before .before .before .before .before .before .pre .0) in
-    omega arith
+add-t11 : tie.Need-add-t11
+add-t11 c = let fit = fits _ _ (c .before .before .before .before .before .before .before .before .before .pre .0) in
+    let (lo, hi) = within _ _ _ _ (inside (c .before .before .before)) in
+    omega (arith, c .before .before .before .before .before .before .before .before .before .pre .1)
 
-entry-overruns-requires : tie.Need-entry-overruns-requires
-entry-overruns-requires c κs =
-    let start = c .before .before .before .before .before .before .before .before in
-    let outside-is = rw (c .before .before .before .before .before .base .ensures, c .before .before .before .before .blocks2 .ensures) at (c .before .before .before .is-outside .ensures) in
-    (start .pre .0, link-astray _ _ _ _ (start .pre .1) ∙ told outside-is (c .before .before .if1 .left))
+blocks-overrun-requires : tie.Need-blocks-overrun-requires
+blocks-overrun-requires c κs = let t10 = inside (c .before .before .before) in (c .before .before .before .before .before .before .before .before .before .pre .0, λ k g. t10)
 
 returns-3 : tie.Need-returns-3
-returns-3 c =
-    let outside-is = rw (c .before .before .before .before .before .before .before .base .ensures, c .before .before .before .before .before .before .blocks2 .ensures) at (c .before .before .before .before .before .is-outside .ensures) in
+returns-3 c = let overrun = c .before .blocks-overrun .ensures _ _ (link-spreads (c .before .before .before .before .before .before .before .before .before .before .before .args .target) (c .before .before .before .before .before .before .before .before .before .before .before .args .table) (c .before .before .before .before .before .before .before .before .before .before .before .pre .1)) in
     decides
-    (past (told outside-is (c .before .before .before .before .if1 .left))
-    (past (same _ _ (rw (c .before .before .before .record-word .ensures, c .before .before .before .before .before .before .before .base .ensures) at (c .before .before .if2 .left)))
-    (here (told (c .before .entry-overruns .ensures) (c .if3 .taken)))))
+    (past (inside (c .before .before .before .before .before))
+    (past (same _ _ (rw (c .before .before .before .record-word .ensures, c .before .before .before .before .record-of .ensures .is) at (c .before .before .if2 .left)))
+    (here (told overrun (c .if3 .taken)))))
 
 returns-4 : tie.Need-returns-4
-returns-4 c =
-    let outside-is = rw (c .before .before .before .before .before .before .before .base .ensures, c .before .before .before .before .before .before .blocks2 .ensures) at (c .before .before .before .before .before .is-outside .ensures) in
+returns-4 c = let overrun = c .before .blocks-overrun .ensures _ _ (link-spreads (c .before .before .before .before .before .before .before .before .before .before .before .args .target) (c .before .before .before .before .before .before .before .before .before .before .before .args .table) (c .before .before .before .before .before .before .before .before .before .before .before .pre .1)) in
     decides
-    (past (told outside-is (c .before .before .before .before .if1 .left))
-    (past (same _ _ (rw (c .before .before .before .record-word .ensures, c .before .before .before .before .before .before .before .base .ensures) at (c .before .before .if2 .left)))
-    (past (told (c .before .entry-overruns .ensures) (c .if3 .left)) none)))
+    (past (inside (c .before .before .before .before .before))
+    (past (same _ _ (rw (c .before .before .before .record-word .ensures, c .before .before .before .before .record-of .ensures .is) at (c .before .before .if2 .left)))
+    (past (told overrun (c .if3 .left)) none)))
 
 pub link-target-refusal-spec : {M : Type 1} → statement M
 link-target-refusal-spec =
@@ -85,12 +76,11 @@ link-target-refusal-spec =
     (λ c κs. search needs)
     is-outside-requires
     returns
-    sub-b
-    (λ c. search needs)
+    record-of-requires
     record-word-requires
     returns-2
-    mul-t10
-    add-t12
-    entry-overruns-requires
+    mul-t8
+    add-t11
+    blocks-overrun-requires
     returns-3
     returns-4)

@@ -1,87 +1,103 @@
 -- Each return is decided by the tests up to its own.
-use mathlib.Core.List.{[], _∷_}
-use mathlib.Core.Path.{refl, sym, _∙_}
+use mathlib.Core.Bool.{false}
+use mathlib.Core.Path.{refl, sym, _∙_, _≡_}
+use mathlib.Core.List.{List, _∷_, []}
+use Prim.Native.Nat.{ℕ}
 use native.Mathlib.Omega.{arith}
 use borrow.Author.Tests.{le-leb, lt-leb}
-use Rattle.words.proofs.Bounded.{differ, same}
-use Rattle.rules.specs.Store.{lent}
-use Rattle.rules.proofs.Refusals.{passed}
-use Rattle.ledger.proofs.Judge.{none, here, past, refused, accepted, told}
-use Rattle.mapping.specs.Forms.{formOf}
-use Rattle.mapping.proofs.Mappings.{place-judged}
 use borrow.Author.Needs.{needs}
+use Rattle.words.proofs.Bounded.{differ, same, told}
+use Rattle.entries.specs.Meaning.{levelOf}
+use Rattle.entries.specs.Entries.{Level}
+use Rattle.rules.specs.Signature.{imageRefusals}
+use Rattle.rules.specs.Store.{Store, lent, base, misfit}
+use Rattle.rules.specs.Refusals.{Refusal, _if_, answerOf}
+use Rattle.rules.specs.Tables.{targetBlocks, mappingWords}
+use Rattle.rules.specs.General.{misaligned, beyondTable}
+use Rattle.rules.proofs.Refusals.{passed, Passed}
+use Rattle.ledger.specs.Pieces.{placeRefusals}
+use Rattle.ledger.proofs.Judge.{Decides, decides, none, here, past, refused, accepted}
+use Rattle.mapping.specs.Meaning.{formOf}
+use Rattle.mapping.specs.Pieces.{mapPlaceRefusals}
+use Rattle.mapping.proofs.Mappings.{place-judged}
 use Rattle.mapping.proofs.map.map_place_refusal.Statement.{statement}
 use Rattle.mapping.proofs.map.map_place_refusal.Tie as tie
 
+abbrev store : tie.Start → Store
+store c = lent (c .args .memory .now) (c .args .ledger .now)
+
+-- what has passed, by the place in the code
+fitting : (c : tie.Else1) → misfit (store (c .before .before .before .before .before)) (base (store (c .before .before .before .before .before))) ≡ false
+fitting c = told (c .before .is-misfit-stored .ensures) (c .if1 .left)
+
+imaged : (c : tie.Else2) → Passed (imageRefusals (c .before .before .before .before .before .before .before .args .golden .now))
+imaged c = passed _ (omega arith) (sym (c .before .image-refusal .ensures) ∙ c .if2 .left)
+
+abbrev start : tie.Else3 → tie.Start
+start c = c .before .before .before .before .before .before .before .before .before .before
+
+abbrev at-level : tie.Else3 → Level
+at-level c = levelOf (c .before .before .level .result)
+
+placed : (c : tie.Else3) → Passed (placeRefusals (at-level c) (store (start c)) (start c .args .request .block))
+placed c = passed _ (omega arith) (sym (c .before .place-refusal .ensures) ∙ c .if3 .left)
+
+-- then the tests that are left decide
+abbrev Answers : tie.Start → ℕ → Type 0
+Answers c k =
+    let a = c .args in k ≡ answerOf (mapPlaceRefusals (formOf (a .form)) (a .golden .now) (store c) (a .request .block) (a .request .index) (a .request .target))
+
+abbrev target-next : tie.Else3 → ℕ → ℕ → List Refusal
+target-next c m n = 3 if misaligned (start c .args .request .target) m ∷ 3 if misaligned (start c .args .request .index) n ∷ 4 if beyondTable (at-level c) (start c .args .request .index) ∷ []
+
+from-target : (c : tie.Else3) {m n k : ℕ} → m ≡ targetBlocks (formOf (start c .args .form)) → n ≡ mappingWords (formOf (start c .args .form)) → Decides (target-next c m n) k → Answers (start c) k
+from-target c blocks words d =
+    let a = start c .args in
+    place-judged (formOf (a .form)) (a .golden .now) (store (start c)) (a .request .block) (a .request .index) (a .request .target) (c .before .before .level .ensures) blocks words
+    (past (fitting (c .before .before .before .before .before)) (accepted (imaged (c .before .before .before)) (accepted (placed c) d)))
+
+from-index : (c : tie.Else4) {n k : ℕ} → n ≡ mappingWords (formOf (start (c .before .before .before) .args .form))
+    → Decides (3 if misaligned (start (c .before .before .before) .args .request .index) n ∷ 4 if beyondTable (at-level (c .before .before .before)) (start (c .before .before .before) .args .request .index) ∷ []) k → Answers (start (c .before .before .before)) k
+from-index c words d = from-target (c .before .before .before) (c .before .before .target-blocks .ensures .is) words (past (same _ _ (c .if4 .left)) d)
+
+from-end : (c : tie.Else5) {k : ℕ} → Decides (4 if beyondTable (at-level (c .before .before .before .before .before .before)) (start (c .before .before .before .before .before .before) .args .request .index) ∷ []) k → Answers (start (c .before .before .before .before .before .before)) k
+from-end c d = from-index (c .before .before .before) (c .before .before .mapping-words .ensures .is) (past (same _ _ (c .if5 .left)) d)
+
 returns : tie.Need-returns
-returns c =
-    let a = c .before .before .before .before .before .args in
-    let s = lent (a .memory .now) (a .ledger .now) in
-    place-judged (formOf (a .form)) (a .golden .now) s (a .block) (a .index) (a .target) refl refl (here (told (c .before .is-misfit-stored .ensures) (c .if1 .taken)))
+returns c = decides (here (told (c .before .is-misfit-stored .ensures) (c .if1 .taken)))
 
 returns-2 : tie.Need-returns-2
-returns-2 c =
-    let a = c .before .before .before .before .before .before .before .args in
-    let s = lent (a .memory .now) (a .ledger .now) in
-    let t1 = told (c .before .before .before .is-misfit-stored .ensures) (c .before .before .if1 .left) in
-    place-judged (formOf (a .form)) (a .golden .now) s (a .block) (a .index) (a .target) refl refl
-    (past t1
-    (here (told (c .before .is-misfit-image .ensures) (c .if2 .taken))))
+returns-2 c = decides (past (fitting (c .before .before)) (refused _ _ (c .before .image-refusal .ensures) (c .if2 .taken)))
 
 place-refusal-requires : tie.Need-place-refusal-requires
-place-refusal-requires c κs = told (c .before .before .before .before .is-misfit-stored .ensures) (c .before .before .before .if1 .left)
+place-refusal-requires c κs = fitting (c .before .before .before)
 
 returns-3 : tie.Need-returns-3
 returns-3 c =
-    let a = c .before .before .before .before .before .before .before .before .before .before .args in
-    let s = lent (a .memory .now) (a .ledger .now) in
-    let t1 = told (c .before .before .before .before .before .before .is-misfit-stored .ensures) (c .before .before .before .before .before .if1 .left) in
-    let t1-image = told (c .before .before .before .before .is-misfit-image .ensures) (c .before .before .before .if2 .left) in
-    place-judged (formOf (a .form)) (a .golden .now) s (a .block) (a .index) (a .target) (c .before .before .level .ensures) refl
-    (past t1
-    (past t1-image
-    (refused _ (_ ∷ _ ∷ []) (c .before .place-refusal .ensures) (c .if3 .taken))))
+    let start = c .before .before .before .before .before .before .before .before .before .before in
+    let a = start .args in
+    place-judged (formOf (a .form)) (a .golden .now) (store start) (a .request .block) (a .request .index) (a .request .target) (c .before .before .level .ensures) refl refl
+    (past (fitting (c .before .before .before .before .before))
+    (accepted (imaged (c .before .before .before))
+    (refused _ _ (c .before .place-refusal .ensures) (c .if3 .taken))))
+
+rem-if4 : tie.Need-rem-if4
+rem-if4 c = let m = c .before .target-blocks .ensures in omega arith
 
 returns-4 : tie.Need-returns-4
-returns-4 c =
-    let a = c .before .before .before .before .before .before .before .before .before .before .before .before .args in
-    let s = lent (a .memory .now) (a .ledger .now) in
-    let t1 = told (c .before .before .before .before .before .before .before .before .is-misfit-stored .ensures) (c .before .before .before .before .before .before .before .if1 .left) in
-    let t1-image = told (c .before .before .before .before .before .before .is-misfit-image .ensures) (c .before .before .before .before .before .if2 .left) in
-    let placed = passed _ (omega arith) (sym (c .before .before .before .place-refusal .ensures) ∙ c .before .before .if3 .left) in
-    place-judged (formOf (a .form)) (a .golden .now) s (a .block) (a .index) (a .target) (c .before .before .before .before .level .ensures) (c .before .covered .ensures .0)
-    (past t1
-    (past t1-image
-    (accepted placed
-    (here (differ _ _ (c .if4 .taken))))))
+returns-4 c = from-target (c .before .before .before) (c .before .before .target-blocks .ensures .is) refl (here (differ _ _ (c .if4 .taken)))
+
+rem-if5 : tie.Need-rem-if5
+rem-if5 c = let m = c .before .mapping-words .ensures in omega arith
 
 returns-5 : tie.Need-returns-5
-returns-5 c =
-    let a = c .before .before .before .before .before .before .before .before .before .before .before .before .before .before .args in
-    let s = lent (a .memory .now) (a .ledger .now) in
-    let t1 = told (c .before .before .before .before .before .before .before .before .before .before .is-misfit-stored .ensures) (c .before .before .before .before .before .before .before .before .before .if1 .left) in
-    let t1-image = told (c .before .before .before .before .before .before .before .before .is-misfit-image .ensures) (c .before .before .before .before .before .before .before .if2 .left) in
-    let placed = passed _ (omega arith) (sym (c .before .before .before .before .before .place-refusal .ensures) ∙ c .before .before .before .before .if3 .left) in
-    place-judged (formOf (a .form)) (a .golden .now) s (a .block) (a .index) (a .target) (c .before .before .before .before .before .before .level .ensures) (c .before .before .before .covered .ensures .0)
-    (past t1
-    (past t1-image
-    (accepted placed
-    (past (same _ _ (c .before .before .if4 .left))
-    (here (le-leb _ _ (rw (c .before .table-entries .ensures) at (c .if5 .taken))))))))
+returns-5 c = from-index (c .before .before .before) (c .before .before .mapping-words .ensures .is) (here (differ _ _ (c .if5 .taken)))
 
 returns-6 : tie.Need-returns-6
-returns-6 c =
-    let a = c .before .before .before .before .before .before .before .before .before .before .before .before .before .before .args in
-    let s = lent (a .memory .now) (a .ledger .now) in
-    let t1 = told (c .before .before .before .before .before .before .before .before .before .before .is-misfit-stored .ensures) (c .before .before .before .before .before .before .before .before .before .if1 .left) in
-    let t1-image = told (c .before .before .before .before .before .before .before .before .is-misfit-image .ensures) (c .before .before .before .before .before .before .before .if2 .left) in
-    let placed = passed _ (omega arith) (sym (c .before .before .before .before .before .place-refusal .ensures) ∙ c .before .before .before .before .if3 .left) in
-    place-judged (formOf (a .form)) (a .golden .now) s (a .block) (a .index) (a .target) (c .before .before .before .before .before .before .level .ensures) (c .before .before .before .covered .ensures .0)
-    (past t1
-    (past t1-image
-    (accepted placed
-    (past (same _ _ (c .before .before .if4 .left))
-    (past (lt-leb _ _ (rw (c .before .table-entries .ensures) at (c .if5 .left))) none)))))
+returns-6 c = from-end (c .before .before .before) (here (le-leb _ _ (rw (c .before .before .table-entries .ensures) at (c .if6 .taken))))
+
+returns-7 : tie.Need-returns-7
+returns-7 c = from-end (c .before .before .before) (past (lt-leb _ _ (rw (c .before .before .table-entries .ensures) at (c .if6 .left))) none)
 
 pub map-place-refusal-spec : {M : Type 1} → statement M
 map-place-refusal-spec =
@@ -95,8 +111,11 @@ map-place-refusal-spec =
     place-refusal-requires
     returns-3
     (λ c κs. search needs)
-    (λ c. search needs)
+    rem-if4
     returns-4
     (λ c κs. search needs)
+    rem-if5
     returns-5
-    returns-6)
+    (λ c κs. search needs)
+    returns-6
+    returns-7)

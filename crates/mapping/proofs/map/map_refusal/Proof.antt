@@ -1,21 +1,23 @@
 -- Each return is decided by the tests up to its own.
-use mathlib.Core.List.{List, [], _∷_}
 use mathlib.Core.Path.{_≡_, refl, sym, _∙_}
+use mathlib.Core.List.{_∷_}
+use Prim.Native.Nat.{ℕ}
 use native.Mathlib.Omega.{arith}
 use borrow.Author.Needs.{needs}
-use Prim.Native.Nat.{ℕ}
-use Rattle.entries.specs.Entries.{Entry, Level}
+use Rattle.words.proofs.Bounded.{told}
 use Rattle.entries.specs.Meaning.{levelOf}
+use Rattle.entries.specs.Entries.{Level}
+use Rattle.entries.specs.Rights.{unlawfulRights}
 use Rattle.rules.specs.Store.{Store, lent}
-use Rattle.rules.specs.Refusals.{Refusal, answerOf}
-use Rattle.rules.specs.Tables.{level, tableEntry}
 use Rattle.rules.specs.Map.{mapRefusals}
-use Rattle.rules.proofs.Refusals.{Passed, passed, now}
-use Rattle.ledger.proofs.Judge.{Decides, here, past, refused, accepted, judged, told}
-use Rattle.mapping.specs.Forms.{formOf}
-use Rattle.mapping.specs.Pieces.{mapPlaceRefusals, holderRefusals}
-use Rattle.mapping.specs.Slots.{InTable}
-use Rattle.mapping.proofs.Mappings.{pieces, map-table, map-judged}
+use Rattle.rules.specs.Refusals.{_if_, answerOf}
+use Rattle.rules.specs.Tables.{mappingWords}
+use Rattle.rules.specs.General.{occupied}
+use Rattle.rules.proofs.Refusals.{passed, now, Passed}
+use Rattle.ledger.proofs.Judge.{Decides, here, past, refused, accepted, judged}
+use Rattle.mapping.specs.Pieces.{holderRefusals, mapPlaceRefusals, mapTargetRefusals}
+use Rattle.mapping.specs.Meaning.{formOf}
+use Rattle.mapping.proofs.Mappings.{map-table, map-slot, map-judged}
 use Rattle.mapping.proofs.Slots.{bounds}
 use Rattle.mapping.proofs.map.map_refusal.Statement.{statement}
 use Rattle.mapping.proofs.map.map_refusal.Tie as tie
@@ -23,64 +25,79 @@ use Rattle.mapping.proofs.map.map_refusal.Tie as tie
 abbrev store : tie.Start → Store
 store c = lent (c .args .memory .now) (c .args .ledger .now)
 
-judge : (c : tie.Start) {v : Level} {e : Entry} {a : ℕ} → v ≡ level (formOf (c .args .form)) → e ≡ tableEntry v (store c) (c .args .block) (c .args .index)
-    → Decides (pieces (formOf (c .args .form)) (c .args .golden .now) (store c) (c .args .block) (c .args .index) (c .args .target) (c .args .rights) v e) a
-    → a ≡ answerOf (mapRefusals (formOf (c .args .form)) (c .args .golden .now) (store c) (c .args .block) (c .args .index) (c .args .target) (c .args .rights))
-judge c = map-judged (formOf (c .args .form)) (c .args .golden .now) (store c) (c .args .block) (c .args .index) (c .args .target) (c .args .rights)
-
 -- what has passed, by the place in the code
-abbrev asked : tie.Start → List Refusal
-asked c = mapPlaceRefusals (formOf (c .args .form)) (c .args .golden .now) (store c) (c .args .block) (c .args .index) (c .args .target)
-
-placed : (c : tie.Else1) → Passed (asked (c .before .before .before .before .before))
+placed : (c : tie.Else1) → Passed (mapPlaceRefusals (formOf (c .before .before .before .before .before .args .form)) (c .before .before .before .before .before .args .golden .now) (store (c .before .before .before .before .before)) (c .before .before .before .before .before .args .request .block) (c .before .before .before .before .before .args .request .index) (c .before .before .before .before .before .args .request .target))
 placed c = passed _ (omega arith) (sym (c .before .map-place-refusal .ensures) ∙ c .if1 .left)
 
-in-table : (c : tie.After-level) → InTable (levelOf (c .level .result)) (store (c .before .before .before .before .before .before)) (c .before .before .before .before .before .before .args .block) (c .before .before .before .before .before .before .args .index)
-in-table c =
-    let a = c .before .before .before .before .before .before .args in
-    map-table (formOf (a .form)) (a .golden .now) (store (c .before .before .before .before .before .before)) (a .block) (a .index) (a .target) (a .rights) (c .level .ensures) (placed (c .before))
+abbrev start : tie.Else2 → tie.Start
+start c = c .before .before .before .before .before .before .before .before
 
-held : (c : tie.Else2) → Passed (holderRefusals (levelOf (c .before .before .level .result)) (store (c .before .before .before .before .before .before .before .before)) (c .before .before .before .before .before .before .before .before .args .block) (c .before .before .before .before .before .before .before .before .args .index))
+abbrev at-level : tie.Else2 → Level
+at-level c = levelOf (c .before .before .level .result)
+
+held : (c : tie.Else2) → Passed (holderRefusals (at-level c) (store (start c)) (start c .args .request .block) (start c .args .request .index))
 held c = passed _ (omega arith) (sym (c .before .holder-refusal .ensures) ∙ c .if2 .left)
 
+-- then the tests that are left decide
+from-words : (c : tie.Else2) {n k : ℕ} → n ≡ mappingWords (formOf (start c .args .form))
+    → Decides (let a = start c .args in 8 if occupied (at-level c) (store (start c)) (a .request .block) (a .request .index) n ∷ 9 if unlawfulRights (a .request .rights) ∷ mapTargetRefusals (formOf (a .form)) (a .golden .now) (store (start c)) (a .request .block) (a .request .index) (a .request .target) (a .request .rights)) k
+    → let a = start c .args in k ≡ answerOf (mapRefusals (formOf (a .form)) (a .golden .now) (store (start c)) (a .request .block) (a .request .index) (a .request .target) (a .request .rights))
+from-words c words d =
+    let a = start c .args in
+    map-judged (formOf (a .form)) (a .golden .now) (store (start c)) (a .request .block) (a .request .index) (a .request .target) (a .request .rights) (c .before .before .level .ensures) words
+    (accepted (placed (c .before .before .before)) (accepted (held c) d))
+
 returns : tie.Need-returns
-returns c = judge (c .before .before .before .before .before) refl refl (refused _ (_ ∷ _ ∷ _ ∷ _ ∷ _ ∷ _ ∷ _ ∷ _ ∷ []) (c .before .map-place-refusal .ensures) (c .if1 .taken))
+returns c =
+    let start = c .before .before .before .before .before in
+    let a = start .args in
+    map-judged (formOf (a .form)) (a .golden .now) (store start) (a .request .block) (a .request .index) (a .request .target) (a .request .rights) refl refl (refused _ _ (c .before .map-place-refusal .ensures) (c .if1 .taken))
+
+holder-refusal-requires : tie.Need-holder-refusal-requires
+holder-refusal-requires c κs =
+    let start = c .before .before .before .before .before .before in
+    let a = start .args in
+    rw (c .level .ensures) (map-table (formOf (a .form)) (a .golden .now) (store start) (a .request .block) (a .request .index) (a .request .target) (placed (c .before)))
 
 returns-2 : tie.Need-returns-2
 returns-2 c =
-    judge (c .before .before .before .before .before .before .before .before) (c .before .before .level .ensures) refl
-    (accepted (placed (c .before .before .before)) (refused _ (_ ∷ _ ∷ _ ∷ _ ∷ _ ∷ _ ∷ []) (c .before .holder-refusal .ensures) (c .if2 .taken)))
+    let start = c .before .before .before .before .before .before .before .before in
+    let a = start .args in
+    map-judged (formOf (a .form)) (a .golden .now) (store start) (a .request .block) (a .request .index) (a .request .target) (a .request .rights) (c .before .before .level .ensures) refl
+    (accepted (placed (c .before .before .before)) (refused _ _ (c .before .holder-refusal .ensures) (c .if2 .taken)))
+
+is-occupied-requires : tie.Need-is-occupied-requires
+is-occupied-requires c κs =
+    let start = c .before .before .before .before .before .before .before .before .before in
+    let a = start .args in
+    rw (c .mapping-words .ensures .is) (map-slot (formOf (a .form)) (a .golden .now) (store start) (a .request .block) (a .request .index) (a .request .target) (placed (c .before .before .before .before)))
 
 returns-3 : tie.Need-returns-3
-returns-3 c =
-    judge (c .before .before .before .before .before .before .before .before .before .before .before) (c .before .before .before .before .before .level .ensures) (c .before .before .entry-in .ensures)
-    (accepted (placed (c .before .before .before .before .before .before))
-    (accepted (held (c .before .before .before))
-    (here (rw (c .before .is-fault .ensures) at (c .if3 .taken)))))
+returns-3 c = from-words (c .before .before .before) (c .before .before .mapping-words .ensures .is) (here (told (c .before .is-occupied .ensures) (c .if3 .taken)))
 
 returns-4 : tie.Need-returns-4
 returns-4 c =
-    judge (c .before .before .before .before .before .before .before .before .before .before .before .before .before) (c .before .before .before .before .before .before .before .level .ensures) (c .before .before .before .before .entry-in .ensures)
-    (accepted (placed (c .before .before .before .before .before .before .before .before))
-    (accepted (held (c .before .before .before .before .before))
-    (past (rw (c .before .before .before .is-fault .ensures) at (c .before .before .if3 .left))
-    (here (told (c .before .are-unlawful .ensures) (c .if4 .taken))))))
+    from-words (c .before .before .before .before .before) (c .before .before .before .before .mapping-words .ensures .is)
+    (past (told (c .before .before .before .is-occupied .ensures) (c .before .before .if3 .left)) (here (told (c .before .are-unlawful .ensures) (c .if4 .taken))))
 
 target-refusal-requires : tie.Need-target-refusal-requires
 target-refusal-requires c κs =
-    let t = in-table (c .before .before .before .before .before .before .before) in
-    let b = bounds t in
+    let start = c .before .before .before .before .before .before .before .before .before .before .before .before .before in
+    let a = start .args in
+    let passes = placed (c .before .before .before .before .before .before .before .before) in
+    let b = bounds (map-table (formOf (a .form)) (a .golden .now) (store start) (a .request .block) (a .request .index) (a .request .target) passes) in
     let f = b .fit in
-    (t .fits, omega arith)
+    let l = b .low in
+    let h = b .high in
+    let k = b .holder-in in
+    ((now passes, omega arith), start .pre)
 
 returns-5 : tie.Need-returns-5
 returns-5 c =
-    judge (c .before .before .before .before .before .before .before .before .before .before .before .before .before .before) (c .before .before .before .before .before .before .before .before .level .ensures) (c .before .before .before .before .before .entry-in .ensures)
-    (accepted (placed (c .before .before .before .before .before .before .before .before .before))
-    (accepted (held (c .before .before .before .before .before .before))
-    (past (rw (c .before .before .before .before .is-fault .ensures) at (c .before .before .before .if3 .left))
+    from-words (c .before .before .before .before .before .before) (c .before .before .before .before .before .mapping-words .ensures .is)
+    (past (told (c .before .before .before .before .is-occupied .ensures) (c .before .before .before .if3 .left))
     (past (told (c .before .before .are-unlawful .ensures) (c .before .if4 .left))
-    (judged _ (c .target-refusal .ensures))))))
+    (judged _ (c .target-refusal .ensures))))
 
 pub map-refusal-spec : {M : Type 1} → statement M
 map-refusal-spec =
@@ -89,10 +106,10 @@ map-refusal-spec =
     (λ c κs. search needs)
     returns
     (λ c κs. search needs)
-    (λ c κs. in-table c)
+    holder-refusal-requires
     returns-2
-    (λ c κs. in-table (c .before .before))
     (λ c κs. search needs)
+    is-occupied-requires
     returns-3
     (λ c κs. search needs)
     returns-4

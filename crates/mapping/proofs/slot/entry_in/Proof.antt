@@ -1,6 +1,6 @@
 -- The word read is that of the index.
 use native.Mathlib.Omega.{arith}
-use Rattle.mapping.proofs.Slots.{bounds, slot}
+use Rattle.mapping.proofs.Slots.{bounds}
 use Rattle.mapping.proofs.slot.entry_in.Statement.{statement}
 use Rattle.mapping.proofs.slot.entry_in.Tie as tie
 
@@ -8,7 +8,7 @@ word-index-requires : tie.Need-word-index-requires
 word-index-requires c κs = let b = bounds (c .before .before .pre) in let f = b .fit in (omega arith, omega arith, omega arith)
 
 entry-at-requires : tie.Need-entry-at-requires
-entry-at-requires c κs = rw (c .word-index .ensures) (slot (c .before .before .before .pre) .holds)
+entry-at-requires c κs = let b = bounds (c .before .before .before .pre) in let f = b .fit in rw (c .word-index .ensures) (omega arith)
 
 returns : tie.Need-returns
 returns c = rw (c .before .word-index .ensures) at (c .entry-at .ensures)

@@ -1,6 +1,7 @@
 -- Each return is decided by the tests up to its own.
 use borrow.Author.Needs.{needs}
-use Rattle.ledger.proofs.Judge.{decides, here, past, judged, told}
+use Rattle.words.proofs.Bounded.{told}
+use Rattle.ledger.proofs.Judge.{decides, here, past, judged}
 use Rattle.mapping.proofs.switch.switch_refusal.Statement.{statement}
 use Rattle.mapping.proofs.switch.switch_refusal.Tie as tie
 

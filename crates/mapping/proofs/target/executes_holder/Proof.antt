@@ -1,18 +1,15 @@
--- What an entry gives a block: it grants the right, and covers the block.
+-- Without the right nothing is executed; with it the holder is looked for in the target.
 use borrow.Author.Tests.{not-true, not-false}
-use Rattle.rules.specs.Tables.{gives}
-use Rattle.ledger.proofs.Judge.{told}
 use borrow.Author.Needs.{needs}
+use Rattle.words.proofs.Bounded.{told}
 use Rattle.mapping.proofs.target.executes_holder.Statement.{statement}
 use Rattle.mapping.proofs.target.executes_holder.Tie as tie
 
 returns : tie.Need-returns
-unfolding gives
-returns c = rw (told (c .before .grants .ensures) (not-true _ (c .if1 .taken)))
+returns c = rw (told (c .before .allows .ensures) (not-true _ (c .if1 .taken)))
 
 returns-2 : tie.Need-returns-2
-unfolding gives
-returns-2 c = rw (told (c .before .before .grants .ensures) (not-false _ (c .before .if1 .left))) (c .covers .ensures)
+returns-2 c = rw (told (c .before .before .allows .ensures) (not-false _ (c .before .if1 .left))) (c .is-among .ensures)
 
 pub executes-holder-spec : {M : Type 1} → statement M
 executes-holder-spec =

@@ -1,42 +1,34 @@
 -- Each return is decided by the tests up to its own.
+use mathlib.Core.Bool.{Bool, true, false, _||_}
+use mathlib.Core.Path.{_≡_, refl, sym, _∙_}
 use native.Mathlib.Omega.{arith}
-use Rattle.rules.specs.Map.{clashingTarget}
-use Rattle.ledger.proofs.Judge.{told}
-use Rattle.mapping.proofs.Mappings.{or-none}
-use mathlib.Core.Path.{sym, _∙_}
 use borrow.Author.Needs.{needs}
+use Rattle.words.proofs.Bounded.{told}
+use Rattle.rules.specs.Map.{clashingTarget}
 use Rattle.mapping.proofs.target.is_clashing_target.Statement.{statement}
 use Rattle.mapping.proofs.target.is_clashing_target.Tie as tie
+
+or-none : (a : Bool) → (a || false) ≡ a
+or-none true = refl
+or-none false = refl
 
 returns : tie.Need-returns
 unfolding clashingTarget
 returns c = rw (told (c .before .before .before .allows .ensures) (c .before .before .if1 .taken), told (c .before .allows2 .ensures) (c .if2 .taken))
 
 some-counted-requires : tie.Need-some-counted-requires
-some-counted-requires c κs =
-    let start = c .before .before .before .before .before .before .before in
-    (omega arith, record { fits = start .pre .fits; inside = rw (c .before .before .before .before .covered .ensures .0) (start .pre .inside) })
+some-counted-requires c κs = (omega arith, record { fits = c .before .before .before .before .before .before .before .pre .fits; inside = rw (c .before .before .before .before .target-blocks .ensures .is) (c .before .before .before .before .before .before .before .pre .inside) })
 
 returns-2 : tie.Need-returns-2
 unfolding clashingTarget
-returns-2 c =
-    rw (
-      told (c .before .before .before .before .allows .ensures) (c .before .before .before .if1 .taken),
-      told (c .before .before .allows2 .ensures) (c .before .if2 .left),
-    ) (rw (c .before .before .before .before .before .covered .ensures .0) at (c .some-counted .ensures) ∙ sym (or-none _))
+returns-2 c = rw (told (c .before .before .before .before .allows .ensures) (c .before .before .before .if1 .taken), told (c .before .before .allows2 .ensures) (c .before .if2 .left)) (rw (c .before .before .before .before .before .target-blocks .ensures .is) at (c .some-counted .ensures) ∙ sym (or-none _))
 
 some-counted-requires-2 : tie.Need-some-counted-requires-2
-some-counted-requires-2 c κs =
-    let start = c .before .before .before .before .before .before .before in
-    (omega arith, record { fits = start .pre .fits; inside = rw (c .before .before .before .before .covered .ensures .0) (start .pre .inside) })
+some-counted-requires-2 c κs = (omega arith, record { fits = c .before .before .before .before .before .before .before .pre .fits; inside = rw (c .before .before .before .before .target-blocks .ensures .is) (c .before .before .before .before .before .before .before .pre .inside) })
 
 returns-3 : tie.Need-returns-3
 unfolding clashingTarget
-returns-3 c =
-    rw (
-      told (c .before .before .before .before .allows .ensures) (c .before .before .before .if1 .left),
-      told (c .before .before .allows3 .ensures) (c .before .if3 .taken),
-    ) (rw (c .before .before .before .before .before .covered .ensures .0) at (c .some-counted2 .ensures))
+returns-3 c = rw (told (c .before .before .before .before .allows .ensures) (c .before .before .before .if1 .left), told (c .before .before .allows3 .ensures) (c .before .if3 .taken)) (rw (c .before .before .before .before .before .target-blocks .ensures .is) at (c .some-counted2 .ensures))
 
 returns-4 : tie.Need-returns-4
 unfolding clashingTarget

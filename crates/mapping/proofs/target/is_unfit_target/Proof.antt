@@ -1,13 +1,9 @@
 -- Each return is decided by the tests up to its own.
-use Rattle.rules.specs.General.{holder}
-use Rattle.mapping.specs.Forms.{formOf}
-use mathlib.Core.Path.{_∙_}
 use native.Mathlib.Omega.{arith}
-use Rattle.mapping.proofs.Mappings.{gives-holder}
+use borrow.Author.Needs.{needs}
+use Rattle.words.proofs.Bounded.{told}
 use Rattle.rules.specs.Map.{unfitTarget}
 use Rattle.rules.proofs.State.{fits}
-use Rattle.ledger.proofs.Judge.{told}
-use borrow.Author.Needs.{needs}
 use Rattle.mapping.proofs.target.is_unfit_target.Statement.{statement}
 use Rattle.mapping.proofs.target.is_unfit_target.Tie as tie
 
@@ -19,32 +15,23 @@ is-outside-requires c κs = let fit = fits _ _ (c .before .before .before .befor
 
 returns : tie.Need-returns
 unfolding unfitTarget
-returns c =
-    let outside-is = rw (c .before .before .before .base .ensures, c .before .before .blocks2 .ensures) at (c .before .is-outside .ensures) in
-    rw (told (rw (c .before .before .before .before .covered .ensures .0) at outside-is) (c .if1 .taken))
+returns c = rw (told (rw (c .before .before .before .base .ensures, c .before .before .blocks2 .ensures, c .before .before .before .before .target-blocks .ensures .is) at (c .before .is-outside .ensures)) (c .if1 .taken))
 
 writes-table-requires : tie.Need-writes-table-requires
-writes-table-requires c κs =
-    let outside-is = rw (c .before .before .before .base .ensures, c .before .before .blocks2 .ensures) at (c .before .is-outside .ensures) in
-    record { fits = c .before .before .before .before .before .before .before .pre .0; inside = told outside-is (c .if1 .left) }
+writes-table-requires c κs = record { fits = c .before .before .before .before .before .before .before .pre .0; inside = told (rw (c .before .before .before .base .ensures, c .before .before .blocks2 .ensures) at (c .before .is-outside .ensures)) (c .if1 .left) }
 
 returns-2 : tie.Need-returns-2
 unfolding unfitTarget
-returns-2 c =
-    let outside-is = rw (c .before .before .before .before .before .base .ensures, c .before .before .before .before .blocks2 .ensures) at (c .before .before .before .is-outside .ensures) in
-    let m = c .before .before .before .before .before .before .covered .ensures .0 in
-    rw (told (rw m at outside-is) (c .before .before .if1 .left), told (rw m at (c .before .writes-table .ensures)) (c .if2 .taken))
+returns-2 c = let m = c .before .before .before .before .before .before .target-blocks .ensures .is in
+    rw (told (rw (c .before .before .before .before .before .base .ensures, c .before .before .before .before .blocks2 .ensures, m) at (c .before .before .before .is-outside .ensures)) (c .before .before .if1 .left), told (rw m at (c .before .writes-table .ensures)) (c .if2 .taken))
 
 returns-3 : tie.Need-returns-3
 unfolding unfitTarget
-returns-3 c =
-    let a = c .before .before .before .before .before .before .before .before .before .before .before .args in
-    let outside-is = rw (c .before .before .before .before .before .before .before .base .ensures, c .before .before .before .before .before .before .blocks2 .ensures) at (c .before .before .before .before .before .is-outside .ensures) in
-    let m = c .before .before .before .before .before .before .before .before .covered .ensures .0 in
+returns-3 c = let m = c .before .before .before .before .before .before .before .target-blocks .ensures .is in
     rw (
-      told (rw m at outside-is) (c .before .before .before .before .if1 .left),
-      told (rw m at (c .before .before .before .writes-table .ensures)) (c .before .before .if2 .left),
-    ) (rw (c .before .mapping .ensures) at (c .executes-holder .ensures) ∙ gives-holder (formOf (a .form)) (a .target) (a .rights) (holder (a .block) (a .index)))
+      told (rw (c .before .before .before .before .before .before .base .ensures, c .before .before .before .before .before .blocks2 .ensures, m) at (c .before .before .before .before .is-outside .ensures)) (c .before .before .before .if1 .left),
+      told (rw m at (c .before .before .writes-table .ensures)) (c .before .if2 .left),
+    ) (rw m at (c .executes-holder .ensures))
 
 pub is-unfit-target-spec : {M : Type 1} → statement M
 is-unfit-target-spec =
@@ -57,6 +44,5 @@ is-unfit-target-spec =
     returns
     writes-table-requires
     returns-2
-    (λ c κs. search needs)
     (λ c κs. search needs)
     returns-3)

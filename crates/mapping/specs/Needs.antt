@@ -1,0 +1,40 @@
+-- What functions require and promise of each other: where the words of a mapping stand, and which blocks it speaks of.
+use mathlib.Core.Bool.{true, false, not}
+use mathlib.Core.Path.{_≡_}
+use Prim.Native.Nat.{ℕ, _+_, _*_, _≤_, _<_}
+use lib.ListN.{length}
+use Rattle.words.specs.Bounded.{any}
+use Rattle.entries.specs.Entries.{Entry, Level, placeFirst, placeBlocks}
+use Rattle.rules.specs.Store.{Store, base, blocks, misfit, outside}
+use Rattle.rules.specs.Tables.{Form, mappingWords, takes, wordIndex, astray}
+use Rattle.rules.specs.General.{tableOutside, beyondTable}
+use Rattle.ledger.specs.Counters.{Spreads}
+
+-- r is v, above 0 and below m
+pub record Positive (v m r : ℕ) : Type 0 where
+  pub is : r ≡ v
+  pub positive : 0 < r
+  pub below : r < m
+
+-- index i lies in a table at block p: 1, 2 and 4 do not apply
+pub record InTable (v : Level) (s : Store) (p i : ℕ) : Type 0 where
+  pub fits : misfit s (base s) ≡ false
+  pub inside : tableOutside v s p ≡ false
+  pub in-table : beyondTable v i ≡ false
+
+-- the memory has the m words from index i of the table at block p on
+pub record Slot (s : Store) (p i m : ℕ) : Type 0 where
+  pub fits : misfit s (base s) ≡ false
+  pub low : base s ≤ p
+  pub holds : 4 * (wordIndex s p i + m) ≤ length (s .memory)
+
+-- the m blocks from t on lie in the region: 1 and 10 do not apply
+pub record InRegion (s : Store) (t m : ℕ) : Type 0 where
+  pub fits : misfit s (base s) ≡ false
+  pub inside : outside (base s) (blocks s) t m ≡ false
+
+-- the first entry e of the words x that a mapping of the form would take speaks for all of them
+pub record SpeaksFor (f : Form) (e : Entry) (x : ℕ → Entry) : Type 0 where
+  pub taken : any (mappingWords f) (λ k. not (takes f (x k))) ≡ not (takes f e)
+  pub placed : takes f e ≡ true → (B n : ℕ) → any (mappingWords f) (λ k. astray B n (x k)) ≡ astray B n e
+  pub spreads : takes f e ≡ true → Spreads (mappingWords f) x e (placeFirst e) (placeBlocks e)
