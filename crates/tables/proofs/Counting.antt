@@ -2,7 +2,7 @@
 use mathlib.Core.Bool.{Bool, true, false, not, _&&_}
 use mathlib.Core.List.{List}
 use mathlib.Core.Logic.{⊎-elim}
-use mathlib.Core.Path.{_≡_, refl, sym, _∙_}
+use mathlib.Core.Path.{_≡_, refl, sym, _∙_, ap}
 use Prim.Native.Nat.{ℕ, zero, suc, _+_, _-_, _*_, _^_, _<_, _≤_}
 use native.Mathlib.Nat.{add-zero, add-suc}
 use native.Mathlib.Omega.{arith}
@@ -12,21 +12,22 @@ use borrow.Author.Tests.{lt-ltb, le-ltb, le-leb, lt-leb, ltb-true, ltb-false, le
 use Rattle.words.specs.Bounded.{above, any, sum, num}
 use Rattle.words.proofs.Bounded.{both-ways, or-right, and-both, any-hit, any-found, or-cases, or-false-left, or-false-right, and-true, and-true-left, and-false-right, below-or-above}
 use Rattle.words.proofs.Words.{Bytes}
-use Rattle.entries.specs.Entries.{Entry, first, size}
+use Rattle.entries.specs.Entries.{Entry, Level, coverFirst, coverBlocks}
 use Rattle.rules.specs.Store.{ledgerHeadBytes, ledgerRecordBytes, counterLimit, basePlace, Store, lent, blocks, base, recordWord, Counter, counterWord, someCounter, counter, someBlock, someRegionBlock, misfit}
 use Rattle.rules.specs.Tables.{grants, gives, gain, astray}
 use Rattle.rules.specs.General.{Change, added, removed, endValue, endsBelow, overruns, someOverrun, recounted}
-use Rattle.rules.proofs.Gains.{gives-within, gives-at, gain-more, gain-hit, gain-none, gain-found}
+use Rattle.rules.proofs.Gains.{gives-within, gives-at, grants-place, gain-more, gain-hit, gain-none, gain-found}
 use Rattle.rules.proofs.State.{fits, some-block-hit, some-block-found, no-block-at, no-counter, some-counter-found, some-counter-hit}
+use Rattle.rules.proofs.Walk.{cover-within}
 use Rattle.rules.proofs.Changes.{counter-at, end, length-recounted, head-recounted, type-recounted, counter-recounted}
-use Rattle.ledger.specs.Counters.{Changeable, Countable}
-use Rattle.ledger.specs.Lent.{Fits}
+use Rattle.ledger.specs.Needs.{Fits, Changeable, Countable}
 use Rattle.ledger.proofs.Records.{recordWord-bound, bytes-recount, ledger-ext}
-use Rattle.ledger.proofs.Counting.{recounted-more}
-use Rattle.validation.specs.Bounds.{beyond, counterBeyond, entryBeyond}
-use Rattle.validation.specs.Lent.{Placed}
-use Rattle.validation.proofs.Places.{in-region}
-use Rattle.tables.specs.Counting.{complete, leastOf, mostOf, Room, Roomy, Storable, AllStorable, opposite, Counted}
+use Rattle.ledger.proofs.Counting.{recounted-more, recounted-none}
+use Rattle.validation.specs.Needs.{AllPlaced, EntryRecorded, TablePlaced}
+use Rattle.validation.specs.Tests.{entryFrom, beyond, counterBeyond, entryBeyond}
+use Rattle.validation.proofs.Covers.{given-inside, entry-recorded}
+use Rattle.tables.specs.Counting.{ChangedUnless, complete, leastOf, mostOf, Room, Roomy, opposite, Counted}
+use Rattle.tables.specs.Needs.{Storable, AllStorable}
 
 -- One counter, changed by k from old
 
@@ -94,37 +95,38 @@ module _ (s : Store) (q : ℕ → Bool) where
   region-hit b l t = some-block-hit (base s) (blocks s) q (base s + b) (omega arith) (omega arith) t
 
   module _ (c : Counter) (en : Entry) where
-    own-found : astray (base s) (blocks s) en ≡ false → grants c en ≡ true → someBlock (first en) (size en) q ≡ true
+    own-found : astray (base s) (blocks s) en ≡ false → grants c en ≡ true → someBlock (coverFirst en) (coverBlocks en) q ≡ true
         → (b : ℕ) × (b < blocks s) × (gives c en (base s + b) ≡ true) × (q (base s + b) ≡ true)
     own-found inside g h =
-        let (p, lo, hi, t) = some-block-found (first en) (size en) q h in
-        let (low, high) = in-region (base s) (blocks s) c en inside g in
+        let (p, lo, hi, t) = some-block-found (coverFirst en) (coverBlocks en) q h in
+        let given = gives-at c en p g lo hi in
+        let (low, high) = given-inside (base s) (blocks s) c en p inside given in
         let is : base s + (p - base s) ≡ p = omega arith in
-        (p - base s, omega arith, rw is (gives-at c en p g lo hi), rw is t)
+        (p - base s, omega arith, rw is given, rw is t)
 
-    own-hit : (b : ℕ) → gives c en (base s + b) ≡ true → q (base s + b) ≡ true → (grants c en && someBlock (first en) (size en) q) ≡ true
+    own-hit : (b : ℕ) → gives c en (base s + b) ≡ true → q (base s + b) ≡ true → (grants c en && someBlock (coverFirst en) (coverBlocks en) q) ≡ true
     own-hit b g t =
         let (grant, lo, hi) = gives-within c en (base s + b) g in
-        and-both (grants c en) (someBlock (first en) (size en) q) grant (some-block-hit (first en) (size en) q (base s + b) lo hi t)
+        and-both (grants c en) (someBlock (coverFirst en) (coverBlocks en) q) grant (some-block-hit (coverFirst en) (coverBlocks en) q (base s + b) lo hi t)
 
-    own-none : (b : ℕ) → (grants c en && someBlock (first en) (size en) q) ≡ false → gives c en (base s + b) ≡ true → q (base s + b) ≡ false
+    own-none : (b : ℕ) → (grants c en && someBlock (coverFirst en) (coverBlocks en) q) ≡ false → gives c en (base s + b) ≡ true → q (base s + b) ≡ false
     own-none b h g =
         let (grant, lo, hi) = gives-within c en (base s + b) g in
-        no-block-at (first en) (size en) q (and-false-right (grants c en) (someBlock (first en) (size en) q) h grant) (base s + b) lo hi
+        no-block-at (coverFirst en) (coverBlocks en) q (and-false-right (grants c en) (someBlock (coverFirst en) (coverBlocks en) q) h grant) (base s + b) lo hi
 
 -- The ledger when i entries are counted
 
 module _ (d : Change) (s : Store) (e : ℕ → Entry) (length-is : length (s .ledger) ≡ ledgerHeadBytes + ledgerRecordBytes * blocks s) (bytes : Bytes (s .ledger)) where
-  abbrev pub counted : ℕ → Store
+  abbrev counted : ℕ → Store
   counted i = lent (s .memory) (recounted d s i e)
 
   small : (c : Counter) (b : ℕ) → recordWord (s .ledger) (counterWord c) b < 2 ^ 32
   small c b = recordWord-bound (s .ledger) (counterWord c) b bytes
 
-  pub roomy-storable : (i : ℕ) → Roomy d s i e → AllStorable d s i e
+  roomy-storable : (i : ℕ) → Roomy d s i e → AllStorable d s i e
   roomy-storable i r c b l = room-storable d _ (gain i e c (base s + b)) (small c b) (r c b l)
 
-  pub base-counted : (i : ℕ) → base (counted i) ≡ base s
+  base-counted : (i : ℕ) → base (counted i) ≡ base s
   base-counted i = head-recounted d s i e basePlace (omega arith)
 
   record-counted : (i : ℕ) → AllStorable d s i e → (c : Counter) (b : ℕ) → b < blocks s → recordWord (recounted d s i e) (counterWord c) b ≡ end d s i e c b
@@ -134,14 +136,14 @@ module _ (d : Change) (s : Store) (e : ℕ → Entry) (length-is : length (s .le
   counter-counted i st c b l = let k : base s + b - base (counted i) ≡ b = omega (arith, base-counted i) in rw k (record-counted i st c b l)
 
   -- an entry that can be changed leaves room
-  pub roomy-more : (i : ℕ) → Roomy d s i e → entryBeyond (leastOf d) (mostOf d) (counted i) (e i) ≡ false → Roomy d s (i + 1) e
+  roomy-more : (i : ℕ) → Roomy d s i e → entryBeyond (leastOf d) (mostOf d) (recounted d s i e) (e i) ≡ false → Roomy d s (i + 1) e
   unfolding entryBeyond counterBeyond
   roomy-more i r t c b l = go (gives c (e i) (base s + b)) refl where
     go : (g : Bool) → gives c (e i) (base s + b) ≡ g → Room d (recordWord (s .ledger) (counterWord c) b) (gain (i + 1) e c (base s + b))
     go false g = rw (gain-spared e c (base s + b) i g) (r c b l)
     go true g =
         let q : ℕ → Bool = λ p. beyond (leastOf d) (mostOf d) (counter c (counted i) p) in
-        let none = own-none s q c (e i) b (no-counter (λ c. counterBeyond (leastOf d) (mostOf d) (counted i) c (e i)) t c) g in
+        let none = own-none s q c (e i) b (no-counter (λ c. counterBeyond (leastOf d) (mostOf d) (recounted d s i e) c (e i)) t c) g in
         rw (gain-given e c (base s + b) i g) (room-more d _ (gain i e c (base s + b)) (r c b l) (rw (counter-counted i (roomy-storable i r) c b l) at none))
 
   module _ (m : ℕ) (inside : (i : ℕ) → i < m → astray (base s) (blocks s) (e i) ≡ false) where
@@ -153,25 +155,25 @@ module _ (d : Change) (s : Store) (e : ℕ → Entry) (length-is : length (s .le
         (some-counter-hit (λ c. overruns d (counter c s (base s + b)) (gain m e c (base s + b))) c (rw (counter-at c s b) o))
 
     -- what an entry beyond its bounds says, when i entries are counted
-    beyond-found : (i k least most : ℕ) → k < m → AllStorable d s i e → entryBeyond least most (counted i) (e k) ≡ true
+    beyond-found : (i k least most : ℕ) → k < m → AllStorable d s i e → entryBeyond least most (recounted d s i e) (e k) ≡ true
         → (c : Counter) × (b : ℕ) × (b < blocks s) × (gives c (e k) (base s + b) ≡ true) × (beyond least most (end d s i e c b) ≡ true)
     unfolding entryBeyond counterBeyond
     beyond-found i k least most l st t =
-        let (c, h) = some-counter-found (λ c. counterBeyond least most (counted i) c (e k)) t in
+        let (c, h) = some-counter-found (λ c. counterBeyond least most (recounted d s i e) c (e k)) t in
         let q : ℕ → Bool = λ p. beyond least most (counter c (counted i) p) in
-        let (grant, some) = and-true (grants c (e k)) (someBlock (first (e k)) (size (e k)) q) h in
+        let (grant, some) = and-true (grants c (e k)) (someBlock (coverFirst (e k)) (coverBlocks (e k)) q) h in
         let (b, n, g, u) = own-found s q c (e k) (inside k l) grant some in
         (c, b, n, g, rw (counter-counted i st c b n) at u)
 
     beyond-hit : (i k least most : ℕ) → AllStorable d s i e → (c : Counter) (b : ℕ) → b < blocks s → gives c (e k) (base s + b) ≡ true → beyond least most (end d s i e c b) ≡ true
-        → entryBeyond least most (counted i) (e k) ≡ true
+        → entryBeyond least most (recounted d s i e) (e k) ≡ true
     unfolding entryBeyond counterBeyond
     beyond-hit i k least most st c b n g u =
         let q : ℕ → Bool = λ p. beyond least most (counter c (counted i) p) in
-        some-counter-hit (λ c. counterBeyond least most (counted i) c (e k)) c (own-hit s q c (e k) b g (rw (counter-counted i st c b n) u))
+        some-counter-hit (λ c. counterBeyond least most (recounted d s i e) c (e k)) c (own-hit s q c (e k) b g (rw (counter-counted i st c b n) u))
 
     -- "13": an entry that can't be changed
-    pub stuck-overruns : (i : ℕ) → i < m → Roomy d s i e → entryBeyond (leastOf d) (mostOf d) (counted i) (e i) ≡ true → someOverrun d s m e ≡ true
+    stuck-overruns : (i : ℕ) → i < m → Roomy d s i e → entryBeyond (leastOf d) (mostOf d) (recounted d s i e) (e i) ≡ true → someOverrun d s m e ≡ true
     stuck-overruns i l r t =
         let (c, b, n, g, u) = beyond-found i i (leastOf d) (mostOf d) l (roomy-storable i r) t in
         let more = gain-given e c (base s + b) i g in
@@ -180,31 +182,31 @@ module _ (d : Change) (s : Store) (e : ℕ → Entry) (length-is : length (s .le
         overrun-at c b n (room-stuck d _ (gain i e c (base s + b)) (small c b) (r c b n) u (gain m e c (base s + b)) (omega arith))
 
     -- or all can, and a counter ends above the limit
-    pub end-overruns : Roomy d s m e → someOverrun d s m e ≡ any m (λ i. entryBeyond 0 counterLimit (counted m) (e i))
+    end-overruns : Roomy d s m e → someOverrun d s m e ≡ any m (λ i. entryBeyond 0 counterLimit (recounted d s m e) (e i))
     unfolding someOverrun
-    end-overruns r = both-ways (someOverrun d s m e) (any m (λ i. entryBeyond 0 counterLimit (counted m) (e i))) there back where
-      there : someOverrun d s m e ≡ true → any m (λ i. entryBeyond 0 counterLimit (counted m) (e i)) ≡ true
+    end-overruns r = both-ways (someOverrun d s m e) (any m (λ i. entryBeyond 0 counterLimit (recounted d s m e) (e i))) there back where
+      there : someOverrun d s m e ≡ true → any m (λ i. entryBeyond 0 counterLimit (recounted d s m e) (e i)) ≡ true
       there h =
           let (b, n, t) = region-found s (λ b. someCounter (λ c. overruns d (counter c s b) (gain m e c b))) h in
           let (c, o) = some-counter-found (λ c. overruns d (counter c s (base s + b)) (gain m e c (base s + b))) t in
           let (some, over) = and-true (above (gain m e c (base s + b)) 0) (above (end d s m e c b) counterLimit) (rw (counter-at c s b, room-overruns d _ (gain m e c (base s + b)) (r c b n)) at o) in
           let (i, l, g) = gain-found m e c (base s + b) (ltb-true 0 (gain m e c (base s + b)) some) in
-          any-hit (λ i. entryBeyond 0 counterLimit (counted m) (e i)) m i l
+          any-hit (λ i. entryBeyond 0 counterLimit (recounted d s m e) (e i)) m i l
           (beyond-hit m i 0 counterLimit (roomy-storable m r) c b n g (or-right (above 0 (end d s m e c b)) (above (end d s m e c b) counterLimit) over))
 
-      back : any m (λ i. entryBeyond 0 counterLimit (counted m) (e i)) ≡ true → someOverrun d s m e ≡ true
+      back : any m (λ i. entryBeyond 0 counterLimit (recounted d s m e) (e i)) ≡ true → someOverrun d s m e ≡ true
       back h =
-          let (i, l, t) = any-found (λ i. entryBeyond 0 counterLimit (counted m) (e i)) m h in
+          let (i, l, t) = any-found (λ i. entryBeyond 0 counterLimit (recounted d s m e) (e i)) m h in
           let (c, b, n, g, u) = beyond-found m i 0 counterLimit l (roomy-storable m r) t in
           let some = lt-ltb 0 (gain m e c (base s + b)) (gain-hit m e c (base s + b) i l g) in
           let over = ⊎-elim (λ z. let under = ltb-true (end d s m e c b) 0 z in let f : ⊥ = omega arith in absurd f) (λ (o : above (end d s m e c b) counterLimit ≡ true). o) (or-cases (above 0 (end d s m e c b)) (above (end d s m e c b) counterLimit) u) in
           overrun-at c b n (rw (room-overruns d _ (gain m e c (base s + b)) (r c b n)) (and-both (above (gain m e c (base s + b)) 0) (above (end d s m e c b) counterLimit) some over))
 
   -- what was counted can be taken back
-  pub back-storable : (i : ℕ) → AllStorable d s i e → AllStorable (opposite d) (counted i) i e
+  back-storable : (i : ℕ) → AllStorable d s i e → AllStorable (opposite d) (counted i) i e
   back-storable i st c b l = rw (base-counted i, record-counted i st c b l) (storable-back d _ (gain i e c (base s + b)) (small c b) (st c b l) .0)
 
-  pub taken-back : (i : ℕ) → AllStorable d s i e → recounted (opposite d) (counted i) i e ≡ s .ledger
+  taken-back : (i : ℕ) → AllStorable d s i e → recounted (opposite d) (counted i) i e ≡ s .ledger
   taken-back i st =
       ledger-ext (recounted (opposite d) (counted i) i e) (s .ledger) (blocks s)
       (length-recounted (opposite d) (counted i) i e ∙ length-recounted d s i e ∙ length-is) length-is
@@ -215,7 +217,7 @@ module _ (d : Change) (s : Store) (e : ℕ → Entry) (length-is : length (s .le
       let is : end (opposite d) (counted i) i e c b ≡ recordWord (s .ledger) (counterWord c) b = rw (base-counted i, record-counted i st c b l) (storable-back d _ (gain i e c (base s + b)) (small c b) (st c b l) .1) in
       counter-recounted (opposite d) (counted i) i e (length-recounted d s i e ∙ length-is) c b l (rw is (small c b)) ∙ is)
 
--- The turns of the loops that count
+-- Fewer entries than can be counted, or one less
 
 changeable-storable : (d : Change) (old k : ℕ) → Storable d old (k + 1) → Changeable d (endValue d old k)
 unfolding endValue
@@ -226,81 +228,109 @@ storable-less : (d : Change) (old j k : ℕ) → j ≤ k → Storable d old k �
 storable-less added old j k l h = omega arith
 storable-less removed old j k l h = omega arith
 
-module _ (d : Change) (s : Store) (e : ℕ → Entry) where
-  -- none is counted
-  pub roomy-none : Roomy d s 0 e
-  roomy-none c b l = rw (gain-none 0 e c (base s + b) (λ i h. let z : ⊥ = omega arith in absurd z)) (room-none d) where
-    room-none : (d : Change) → Room d (recordWord (s .ledger) (counterWord c) b) 0
-    room-none added = λ h. let z : ⊥ = omega arith in absurd z
-    room-none removed = omega arith
+roomy-none : (d : Change) (s : Store) (e : ℕ → Entry) → Roomy d s 0 e
+roomy-none d s e c b l = rw (gain-none 0 e c (base s + b) (λ i h. let z : ⊥ = omega arith in absurd z)) (room-none d) where
+  room-none : (d : Change) → Room d (recordWord (s .ledger) (counterWord c) b) 0
+  room-none added = λ h. let z : ⊥ = omega arith in absurd z
+  room-none removed = omega arith
 
-  pub storable-fewer : (i k : ℕ) → i ≤ k → AllStorable d s k e → AllStorable d s i e
-  storable-fewer i k l st c b n =
+-- The loops that count a table's entries, and the ledger that each has reached
+
+module _ (d : Change) {v : Level} {memory ledger : List ℕ} {j m : ℕ} (pre : TablePlaced v memory ledger j m) (bytes : Bytes ledger) where
+  abbrev store : Store
+  store = lent memory ledger
+
+  abbrev entry : ℕ → Entry
+  entry = entryFrom v memory j
+
+  length-is : length ledger ≡ ledgerHeadBytes + ledgerRecordBytes * blocks store
+  length-is = fits store (base store) (pre .fits) .ledger-length
+
+  -- entries that can be counted: those for which there was room, and a part of others
+  pub all-storable : (i : ℕ) → Roomy d (lent memory ledger) i (entryFrom v memory j) → AllStorable d (lent memory ledger) i (entryFrom v memory j)
+  all-storable i r = roomy-storable d store entry length-is bytes i r
+
+  pub fewer-storable : (i k : ℕ) → i ≤ k → AllStorable d (lent memory ledger) k (entryFrom v memory j) → AllStorable d (lent memory ledger) i (entryFrom v memory j)
+  fewer-storable i k l st c b n =
       let rest : i + (k - i) ≡ k = omega arith in
-      storable-less d _ _ _ (rw rest at (gain-grows e c (base s + b) (k - i) i)) (st c b n)
+      storable-less d _ _ _ (rw rest at (gain-grows entry c (base store + b) (k - i) i)) (st c b n)
 
-module _ (d : Change) (s : Store) (e : ℕ → Entry) (m : ℕ) (fit : misfit s (base s) ≡ false) (placed : (i : ℕ) → i < m → astray (base s) (blocks s) (e i) ≡ false)
-    (i : ℕ) (l : i < m) {led : List ℕ} (at : led ≡ recounted d s i e) {en : Entry} (is : en ≡ e i) where
-  pub step-fits : Fits (s .memory) led × Placed (s .memory) led en
-  unfolding misfit
-  step-fits = rw (at, is, length-recounted d s i e, head-recounted d s i e basePlace (omega arith)) (fit, placed i l)
+  -- no entry is counted
+  pub none-counted : (ledger ≡ recounted d (lent memory ledger) 0 (entryFrom v memory j)) × Roomy d (lent memory ledger) 0 (entryFrom v memory j)
+  none-counted = (sym (recounted-none d store entry length-is bytes), roomy-none d store entry)
 
-  module _ (bytes : Bytes (s .ledger)) (st : AllStorable d s (i + 1) e) where
-    length-is : length (s .ledger) ≡ ledgerHeadBytes + ledgerRecordBytes * blocks s
-    length-is = fits s (base s) fit .ledger-length
+  -- i entries are
+  module _ (i : ℕ) {led : List ℕ} (reached : led ≡ recounted d (lent memory ledger) i (entryFrom v memory j)) where
+    pub length-reached : length led ≡ length ledger
+    length-reached = ap length reached ∙ length-recounted d store i entry
 
-    pub step-countable : (c : Counter) → Countable d led c en
-    step-countable c = rw (at, is) now where
-      now : Countable d (recounted d s i e) c (e i)
-      now g k n =
-          let (low, high) = in-region (base s) (blocks s) c (e i) (placed i l) g in
-          let b = first (e i) - base s + k in
-          let given = gives-at c (e i) (base s + b) g (omega arith) (omega arith) in
-          rw (head-recounted d s i e basePlace (omega arith), record-counted d s e length-is bytes i (storable-fewer d s e i (i + 1) (omega arith) st) c b (omega arith))
-          (changeable-storable d _ (gain i e c (base s + b)) (rw (gain-given e c (base s + b) i given) at (st c b (omega arith))))
+    fits-reached : Fits memory led
+    unfolding misfit
+    fits-reached = rw (reached, length-recounted d store i entry, head-recounted d store i entry basePlace (omega arith)) (pre .fits)
 
-    pub step-counted : {led′ : List ℕ} → led′ ≡ recounted d (lent (s .memory) led) 1 (λ k. en) → led′ ≡ recounted d s (i + 1) e
-    step-counted q = rw (at, is) at q ∙ recounted-more d s length-is bytes e i (λ c b n. storable-end d _ (gain (i + 1) e c (base s + b)) (recordWord-bound (s .ledger) (counterWord c) b bytes) (st c b n))
+    placed-reached : AllPlaced v memory led j m
+    placed-reached k l = rw (reached, head-recounted d store i entry basePlace (omega arith)) (pre .placed k l)
 
--- What counting leaves
+    pub table-reached : (k : ℕ) → k ≤ m → TablePlaced v memory led j k
+    table-reached k l = record { fits = fits-reached; holds = omega (arith, pre .holds); placed = λ n h. placed-reached n (omega arith) }
 
-module _ (d : Change) (s : Store) (e : ℕ → Entry) (m : ℕ) (fit : misfit s (base s) ≡ false) (placed : (i : ℕ) → i < m → astray (base s) (blocks s) (e i) ≡ false)
-    (bytes : Bytes (s .ledger)) {r : ℕ} {led : List ℕ} (done : Counted d s m e r led) where
-  ledger-length : length (s .ledger) ≡ ledgerHeadBytes + ledgerRecordBytes * blocks s
-  ledger-length = fits s (base s) fit .ledger-length
+    -- the next can be tested, counted if there is room, and is then counted too
+    module _ (l : i < m) {e : Entry} (is : e ≡ entryFrom v memory j i) where
+      next-placed : astray (base (lent memory led)) (blocks store) e ≡ false
+      next-placed = rw is (placed-reached i l)
 
-  storable : AllStorable d s r e
-  storable = roomy-storable d s e ledger-length bytes r (done .roomy)
+      pub next-recorded : EntryRecorded led e
+      next-recorded = entry-recorded (lent memory led) e fits-reached next-placed
 
-  pub counted-fits : Fits (s .memory) led
-  unfolding misfit
-  counted-fits = rw (done .ledger-is, length-recounted d s r e, head-recounted d s r e basePlace (omega arith)) fit
+      pub next-roomy : Roomy d (lent memory ledger) i (entryFrom v memory j) → entryBeyond (leastOf d) (mostOf d) led e ≡ false → Roomy d (lent memory ledger) (i + 1) (entryFrom v memory j)
+      next-roomy r t = roomy-more d store entry length-is bytes i r (rw (reached, is) at t)
 
-  pub counted-placed : (i : ℕ) → i < m → Placed (s .memory) led (e i)
-  counted-placed i l = rw (done .ledger-is, head-recounted d s r e basePlace (omega arith)) (placed i l)
+      module _ (st : AllStorable d (lent memory ledger) (i + 1) (entryFrom v memory j)) where
+        next-countable : (c : Counter) → Countable d led c e (coverFirst e) (coverBlocks e)
+        next-countable c = rw (reached, is) now where
+          now : Countable d (recounted d store i entry) c (entry i) (coverFirst (entry i)) (coverBlocks (entry i))
+          now g k n =
+              let (low, high) = cover-within (base store) (blocks store) (entry i) (grants-place c (entry i) g) (pre .placed i l) in
+              let b = coverFirst (entry i) - base store + k in
+              let given = gives-at c (entry i) (base store + b) g (omega arith) (omega arith) in
+              rw (head-recounted d store i entry basePlace (omega arith), record-counted d store entry length-is bytes i (fewer-storable i (i + 1) (omega arith) st) c b (omega arith))
+              (changeable-storable d _ (gain i entry c (base store + b)) (rw (gain-given entry c (base store + b) i given) at (st c b (omega arith))))
 
-  pub counted-back : AllStorable (opposite d) (lent (s .memory) led) r e
-  counted-back = rw (done .ledger-is) (back-storable d s e ledger-length bytes r storable)
+        pub next-ready : Fits memory led × ((astray (base (lent memory led)) (blocks (lent memory led)) e ≡ false) × ((c : Counter) → Countable d led c e (coverFirst e) (coverBlocks e)))
+        next-ready = (fits-reached, (next-placed, next-countable))
 
-  stuck-overrun : r < m → someOverrun d s m e ≡ true
-  stuck-overrun l = stuck-overruns d s e ledger-length bytes m placed r l (done .roomy) (done .stuck l)
+        pub next-counted : {led′ : List ℕ} → led′ ≡ recounted d (lent memory led) 1 (λ k. e) → led′ ≡ recounted d (lent memory ledger) (i + 1) (entryFrom v memory j)
+        next-counted q = rw (reached, is) at q ∙ recounted-more d store length-is bytes entry i (λ c b n. storable-end d _ (gain (i + 1) entry c (base store + b)) (recordWord-bound ledger (counterWord c) b bytes) (st c b n))
 
-  end-overrun : r ≡ m → someOverrun d s m e ≡ any m (λ i. entryBeyond 0 counterLimit (lent (s .memory) led) (e i))
-  end-overrun q = rw (done .ledger-is, q) (end-overruns d s e ledger-length bytes m placed (rw q at (done .roomy)))
+  -- What counting leaves
 
-  overrun-is : not (someOverrun d s m e) ≡ complete (lent (s .memory) led) m e r
-  overrun-is =
-      let most = done .at-most in
-      ⊎-elim (λ (h : r < m). rw (stuck-overrun h, lt-leb m r h) refl) (λ (h : m ≤ r). rw (end-overrun (omega arith), le-leb m r h) refl) (below-or-above r m)
+  module _ {r : ℕ} {led : List ℕ} (done : Counted d (lent memory ledger) m (entryFrom v memory j) r led) where
+    storable : AllStorable d store r entry
+    storable = all-storable r (done .roomy)
 
-  -- all are counted, or what was counted is taken back
-  pub counted-all : complete (lent (s .memory) led) m e r ≡ true → (true ≡ not (someOverrun d s m e)) × (led ≡ recounted d s m e)
-  counted-all t =
-      let most = done .at-most in
-      let least = leb-true m r (and-true-left (leb m r) (not (any m (λ i. entryBeyond 0 counterLimit (lent (s .memory) led) (e i)))) t) in
-      let all : r ≡ m = omega arith in
-      (sym (overrun-is ∙ t), rw all at (done .ledger-is))
+    pub back-counted : AllStorable (opposite d) (lent memory led) r (entryFrom v memory j)
+    back-counted = rw (done .ledger-is) (back-storable d store entry length-is bytes r storable)
 
-  pub counted-undone : {led′ : List ℕ} → complete (lent (s .memory) led) m e r ≡ false → led′ ≡ recounted (opposite d) (lent (s .memory) led) r e
-      → (false ≡ not (someOverrun d s m e)) × (led′ ≡ s .ledger)
-  counted-undone t q = (sym (overrun-is ∙ t), rw (done .ledger-is) at q ∙ taken-back d s e ledger-length bytes r storable)
+    stuck-overrun : r < m → someOverrun d store m entry ≡ true
+    stuck-overrun l = stuck-overruns d store entry length-is bytes m (pre .placed) r l (done .roomy) (rw (done .ledger-is) at (done .stuck l))
+
+    end-overrun : r ≡ m → someOverrun d store m entry ≡ any m (λ i. entryBeyond 0 counterLimit led (entry i))
+    end-overrun q = rw (done .ledger-is, q) (end-overruns d store entry length-is bytes m (pre .placed) (rw q at (done .roomy)))
+
+    overrun-is : not (someOverrun d store m entry) ≡ complete led m entry r
+    overrun-is =
+        let most = done .at-most in
+        ⊎-elim (λ (h : r < m). rw (stuck-overrun h, lt-leb m r h) refl) (λ (h : m ≤ r). rw (end-overrun (omega arith), le-leb m r h) refl) (below-or-above r m)
+
+    -- all are counted, or what was counted is taken back
+    pub counted-all : complete led m (entryFrom v memory j) r ≡ true
+        → ChangedUnless (someOverrun d (lent memory ledger) m (entryFrom v memory j)) (recounted d (lent memory ledger) m (entryFrom v memory j)) ledger true led
+    counted-all t =
+        let most = done .at-most in
+        let least = leb-true m r (and-true-left (leb m r) (not (any m (λ i. entryBeyond 0 counterLimit led (entry i)))) t) in
+        let all : r ≡ m = omega arith in
+        record { tells = sym (overrun-is ∙ t); leaves = rw all at (done .ledger-is) }
+
+    pub counted-undone : {led′ : List ℕ} → complete led m (entryFrom v memory j) r ≡ false → led′ ≡ recounted (opposite d) (lent memory led) r (entryFrom v memory j)
+        → ChangedUnless (someOverrun d (lent memory ledger) m (entryFrom v memory j)) (recounted d (lent memory ledger) m (entryFrom v memory j)) ledger false led′
+    counted-undone t q = record { tells = sym (overrun-is ∙ t); leaves = rw (done .ledger-is) at q ∙ taken-back d store entry length-is bytes r storable }

@@ -1,15 +1,15 @@
 -- Refusal 13, looked for while the entries are counted one by one.
-use mathlib.Core.Bool.{Bool, true, not, _&&_}
+use mathlib.Core.Bool.{Bool, true, cond, not, _&&_}
 use mathlib.Core.List.{List}
 use mathlib.Core.Path.{_≡_}
 use Prim.Native.Nat.{ℕ, _+_, _-_, _^_, _<_, _≤_}
 use lib.Dec.{leb}
 use Rattle.words.specs.Bounded.{any}
-use Rattle.entries.specs.Entries.{Entry, Level}
-use Rattle.rules.specs.Store.{counterLimit, Store, lent, blocks, base, recordWord, Counter, counterWord, retype}
-use Rattle.rules.specs.Tables.{typeD, typeCode, tableBlocks, entries, tableEntry, gain}
+use Rattle.entries.specs.Entries.{Entry}
+use Rattle.rules.specs.Store.{counterLimit, Store, blocks, base, recordWord, Counter, counterWord}
+use Rattle.rules.specs.Tables.{gain}
 use Rattle.rules.specs.General.{Change, added, removed, recounted}
-use Rattle.validation.specs.Bounds.{entryBeyond}
+use Rattle.validation.specs.Tests.{entryBeyond}
 
 -- the counters that can be changed by one: a counter that is added to stays within the limit
 abbrev pub leastOf : Change → ℕ
@@ -28,14 +28,6 @@ Room removed old k = k ≤ old
 abbrev pub Roomy : Change → Store → ℕ → (ℕ → Entry) → Type 0
 Roomy d s i e = (c : Counter) (b : ℕ) → b < blocks s → Room d (recordWord (s .ledger) (counterWord c) b) (gain i e c (base s + b))
 
--- counters can be changed by k and stored
-abbrev pub Storable : Change → ℕ → ℕ → Type 0
-Storable added old k = old + k < 2 ^ 32
-Storable removed old k = k ≤ old
-
-abbrev pub AllStorable : Change → Store → ℕ → (ℕ → Entry) → Type 0
-AllStorable d s i e = (c : Counter) (b : ℕ) → b < blocks s → Storable d (recordWord (s .ledger) (counterWord c) b) (gain i e c (base s + b))
-
 -- taking back
 abbrev pub opposite : Change → Change
 opposite added = removed
@@ -46,17 +38,13 @@ pub record Counted (d : Change) (s : Store) (m : ℕ) (e : ℕ → Entry) (r : �
   pub at-most : r ≤ m
   pub ledger-is : ledger ≡ recounted d s r e
   pub roomy : Roomy d s r e
-  pub stuck : r < m → entryBeyond (leastOf d) (mostOf d) (lent (s .memory) (recounted d s r e)) (e r) ≡ true
+  pub stuck : r < m → entryBeyond (leastOf d) (mostOf d) ledger (e r) ≡ true
 
 -- all m entries are counted, and no counter by which they count is above the limit
-abbrev pub complete : Store → ℕ → (ℕ → Entry) → ℕ → Bool
-complete s m e r = leb m r && not (any m (λ i. entryBeyond 0 counterLimit s (e i)))
+abbrev pub complete : List ℕ → ℕ → (ℕ → Entry) → ℕ → Bool
+complete ledger m e r = leb m r && not (any m (λ i. entryBeyond 0 counterLimit ledger (e i)))
 
--- the type of a table's blocks when its entries have been added, or removed
-abbrev pub typeAfter : Change → Level → ℕ
-typeAfter added v = typeCode v
-typeAfter removed v = typeD
-
--- "Types and counters change": the ledger when the table at block p has been created, or freed
-abbrev pub turned : Change → Level → Store → ℕ → List ℕ
-turned d v s p = retype (recounted d s (entries v) (tableEntry v s p)) (p - base s) (tableBlocks v) (typeAfter d v)
+-- the ledger is changed, and r is true, unless a counter would overrun
+pub record ChangedUnless (overrun : Bool) (changed old : List ℕ) (r : Bool) (ledger : List ℕ) : Type 0 where
+  pub tells : r ≡ not overrun
+  pub leaves : ledger ≡ cond r changed old

@@ -1,3 +1,3 @@
-pub mod Lent
-pub mod Judged
+pub mod Needs
 pub mod Counting
+pub mod Pieces

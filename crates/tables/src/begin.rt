@@ -14,10 +14,10 @@ use ledger::region::blocks;
 use ledger::region::is_misfit;
 ghost use mathlib.Core.Path.{_≡_};
 ghost use Prim.Native.Nat.{_+_};
-ghost use Rattle.ledger.specs.Records.{InLedger};
 ghost use Rattle.rules.specs.Begin.{beginOutcome};
 ghost use Rattle.rules.specs.Store.{lent, putCounters, putRecordWord, recount, retype, typeWord};
 ghost use Rattle.rules.specs.Tables.{typeD};
+ghost use Rattle.ledger.specs.Needs.{InLedger};
 
 // The record of block b has type D and no counts.
 fn clear_record(ledger: &mut [u8], b: usize)

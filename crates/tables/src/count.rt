@@ -2,7 +2,6 @@
 // Refusal 13 shows on the way or at the end, and what was counted is then taken back.
 use crate::own::first_word;
 use crate::own::put_types;
-use crate::own::table_record;
 use entries::decode::entry_at;
 use entries::entry::Entry;
 use entries::entry::Level;
@@ -10,24 +9,22 @@ use ledger::counters::Change;
 use ledger::counters::change_entry;
 use ledger::layout::COUNTER_LIMIT;
 use ledger::layout::TYPE_D;
+use ledger::layout::record_of;
 use ledger::table::table_blocks;
 use ledger::table::table_entries;
 use ledger::table::table_type;
 use validation::scan::some_above_limit;
 use validation::target::entry_beyond;
-ghost use mathlib.Core.Bool.{cond, not};
 ghost use mathlib.Core.Path.{_≡_};
 ghost use Rattle.entries.specs.Meaning.{levelOf, meaning};
-ghost use Rattle.ledger.specs.Counters.{changeOf};
-ghost use Rattle.rules.specs.General.{recounted, someOverrun};
+ghost use Rattle.rules.specs.General.{recounted, retyped, someOverrun, typeAfter};
 ghost use Rattle.rules.specs.Store.{lent};
-ghost use Rattle.rules.specs.Tables.{entries, tableEntry};
-ghost use Rattle.validation.specs.Bounds.{entryBeyond};
-ghost use Rattle.validation.specs.Entries.{TablePlaced, entryFrom};
-ghost use Rattle.ledger.specs.Lent.{Fits, TableInside};
-ghost use Rattle.validation.specs.Lent.{Placed};
-ghost use Rattle.tables.specs.Counting.{AllStorable, Counted, complete, leastOf, mostOf, opposite as oppositeOf, turned, typeAfter};
-ghost use Rattle.tables.specs.Lent.{EntriesPlaced};
+ghost use Rattle.rules.specs.Tables.{tableEntries, tableEntry};
+ghost use Rattle.ledger.specs.Meaning.{changeOf};
+ghost use Rattle.validation.specs.Needs.{EntryRecorded, TablePlaced};
+ghost use Rattle.validation.specs.Tests.{entryBeyond, entryFrom};
+ghost use Rattle.tables.specs.Counting.{ChangedUnless, Counted, complete, leastOf, mostOf, opposite};
+ghost use Rattle.tables.specs.Needs.{AllStorable, TableReady};
 
 const LARGEST_WORD: u32 = 0xFFFF_FFFF;
 
@@ -50,7 +47,7 @@ fn most_of(change: Change) -> u32
 }
 
 fn opposite(change: Change) -> Change
-    ensures { λ r. ⌜ changeOf r ≡ oppositeOf (changeOf change) ⌝ }
+    ensures { λ r. ⌜ changeOf r ≡ opposite (changeOf change) ⌝ }
 {
     match change {
         Change::Added => Change::Removed,
@@ -59,11 +56,11 @@ fn opposite(change: Change) -> Change
 }
 
 // Some counter can't be changed by the entry.
-fn is_stuck(change: Change, memory: &[u8], ledger: &[u8], e: Entry) -> bool
-    requires { ⌜ Fits (now memory) (now ledger) × Placed (now memory) (now ledger) (meaning e) ⌝ }
-    ensures { λ r. ⌜ r ≡ entryBeyond (leastOf (changeOf change)) (mostOf (changeOf change)) (lent (now (memory .entry)) (now (ledger .entry))) (meaning e) ⌝ }
+fn is_stuck(change: Change, ledger: &[u8], e: Entry) -> bool
+    requires { ⌜ EntryRecorded (now ledger) (meaning e) ⌝ }
+    ensures { λ r. ⌜ r ≡ entryBeyond (leastOf (changeOf change)) (mostOf (changeOf change)) (now (ledger .entry)) (meaning e) ⌝ }
 {
-    entry_beyond(memory, ledger, e, least_of(change), most_of(change))
+    entry_beyond(ledger, e, least_of(change), most_of(change))
 }
 
 // Counts entries up to one that can't be, and tells how many.
@@ -80,7 +77,7 @@ fn count_until_stuck(
 {
     for i in 0..m {
         let e = entry_at(level, memory, j + i);
-        if is_stuck(change, memory, ledger, e) {
+        if is_stuck(change, ledger, e) {
             return i;
         }
         change_entry(change, memory, ledger, e);
@@ -102,7 +99,7 @@ fn count_all(change: Change, level: Level, memory: &[u8], ledger: &mut [u8], j: 
 // All m entries are counted, and no counter by which they count is above the limit.
 fn is_complete(level: Level, memory: &[u8], ledger: &[u8], j: usize, m: usize, done: usize) -> bool
     requires { ⌜ TablePlaced (levelOf level) (now memory) (now ledger) j m ⌝ }
-    ensures { λ r. ⌜ r ≡ complete (lent (now (memory .entry)) (now (ledger .entry))) m (entryFrom (levelOf level) (now (memory .entry)) j) done ⌝ }
+    ensures { λ r. ⌜ r ≡ complete (now (ledger .entry)) m (entryFrom (levelOf level) (now (memory .entry)) j) done ⌝ }
 {
     if done < m {
         return false;
@@ -120,8 +117,7 @@ fn count_table(
     m: usize,
 ) -> bool
     requires { ⌜ TablePlaced (levelOf level) (now memory) (now ledger) j m ⌝ }
-    ensures { λ r. ⌜ r ≡ not (someOverrun (changeOf change) (lent (now (memory .entry)) (now (ledger .entry))) m (entryFrom (levelOf level) (now (memory .entry)) j)) ⌝ }
-    ensures { λ r. ⌜ now (ledger .exit) ≡ cond r (recounted (changeOf change) (lent (now (memory .entry)) (now (ledger .entry))) m (entryFrom (levelOf level) (now (memory .entry)) j)) (now (ledger .entry)) ⌝ }
+    ensures { λ r. ⌜ ChangedUnless (someOverrun (changeOf change) (lent (now (memory .entry)) (now (ledger .entry))) m (entryFrom (levelOf level) (now (memory .entry)) j)) (recounted (changeOf change) (lent (now (memory .entry)) (now (ledger .entry))) m (entryFrom (levelOf level) (now (memory .entry)) j)) (now (ledger .entry)) r (now (ledger .exit)) ⌝ }
 {
     let done = count_until_stuck(change, level, memory, ledger, j, m);
     if is_complete(level, memory, ledger, j, m, done) {
@@ -142,20 +138,18 @@ fn type_after(change: Change, level: Level) -> u32
 }
 
 // Counts the entries of the table at a block and gives its blocks their type, or leaves the ledger if a counter would overrun.
-pub fn turn_table(
+pub fn change_table(
     change: Change,
     level: Level,
     memory: &[u8],
     ledger: &mut [u8],
     block: u32,
 ) -> bool
-    requires { ⌜ Fits (now memory) (now ledger) × TableInside (levelOf level) (now memory) (now ledger) block ⌝ }
-    requires { ⌜ EntriesPlaced (levelOf level) (lent (now memory) (now ledger)) block ⌝ }
-    ensures { λ r. ⌜ r ≡ not (someOverrun (changeOf change) (lent (now (memory .entry)) (now (ledger .entry))) (entries (levelOf level)) (tableEntry (levelOf level) (lent (now (memory .entry)) (now (ledger .entry))) block)) ⌝ }
-    ensures { λ r. ⌜ now (ledger .exit) ≡ cond r (turned (changeOf change) (levelOf level) (lent (now (memory .entry)) (now (ledger .entry))) block) (now (ledger .entry)) ⌝ }
+    requires { ⌜ TableReady (levelOf level) (now memory) (now ledger) block ⌝ }
+    ensures { λ r. ⌜ ChangedUnless (someOverrun (changeOf change) (lent (now (memory .entry)) (now (ledger .entry))) (tableEntries (levelOf level)) (tableEntry (levelOf level) (lent (now (memory .entry)) (now (ledger .entry))) block)) (retyped (changeOf change) (levelOf level) (lent (now (memory .entry)) (now (ledger .entry))) block .ledger) (now (ledger .entry)) r (now (ledger .exit)) ⌝ }
 {
-    let j = first_word(level, memory, ledger, block);
-    let b = table_record(level, memory, ledger, block);
+    let j = first_word(ledger, block);
+    let b = record_of(ledger, block);
     let m = table_entries(level) as usize;
     if !count_table(change, level, memory, ledger, j, m) {
         return false;

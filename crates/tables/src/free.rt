@@ -1,5 +1,5 @@
 // Free L1, free L2: "The type becomes D, the counters lose its entries, the bytes remain".
-use crate::count::turn_table;
+use crate::count::change_table;
 use crate::own::first_word;
 use crate::own::is_in_use;
 use entries::entry::Level;
@@ -18,7 +18,7 @@ ghost use Rattle.entries.specs.Meaning.{levelOf};
 ghost use Rattle.rules.specs.Free.{freeOutcome};
 ghost use Rattle.rules.specs.Refusals.{answerOf};
 ghost use Rattle.rules.specs.Store.{lent};
-ghost use Rattle.tables.specs.Judged.{freeJudged};
+ghost use Rattle.tables.specs.Pieces.{freeJudged};
 
 fn free_refusal(level: Level, memory: &[u8], ledger: &[u8], block: u32) -> u32
     ensures { λ r. ⌜ r ≡ answerOf (freeJudged (levelOf level) (lent (now (memory .entry)) (now (ledger .entry))) block) ⌝ }
@@ -33,7 +33,7 @@ fn free_refusal(level: Level, memory: &[u8], ledger: &[u8], block: u32) -> u32
     if is_in_use(level, memory, ledger, block) {
         return IN_USE;
     }
-    let j = first_word(level, memory, ledger, block);
+    let j = first_word(ledger, block);
     let m = table_entries(level) as usize;
     old_entries_refusal(level, memory, ledger, j, m)
 }
@@ -46,7 +46,7 @@ pub fn free(level: Level, memory: &[u8], ledger: &mut [u8], block: u32) -> u32
     if refusal != ACCEPTED {
         return refusal;
     }
-    if turn_table(Change::Removed, level, memory, ledger, block) {
+    if change_table(Change::Removed, level, memory, ledger, block) {
         return ACCEPTED;
     }
     OVERRUN

@@ -6,36 +6,28 @@ use ledger::layout::LINKED;
 use ledger::layout::TYPE;
 use ledger::layout::WRITABLE;
 use ledger::layout::active;
-use ledger::layout::base;
 use ledger::layout::put_record_word;
+use ledger::layout::record_of;
 use ledger::layout::record_word;
 use ledger::scan::some_above_zero;
 use ledger::table::table_blocks;
 ghost use mathlib.Core.Path.{_≡_};
-ghost use Prim.Native.Nat.{_+_, _-_, _*_, _<_, _^_};
+ghost use Prim.Native.Nat.{_+_, _*_, _≤_};
+ghost use lib.ListN.{length};
+ghost use Rattle.words.specs.Words.{word};
 ghost use Rattle.entries.specs.Entries.{l1, l2};
 ghost use Rattle.entries.specs.Meaning.{levelOf};
-ghost use Rattle.ledger.specs.Records.{InLedger};
 ghost use Rattle.rules.specs.Create.{someCount};
 ghost use Rattle.rules.specs.Free.{inUse};
-ghost use Rattle.rules.specs.Store.{blockWords, lent, retype};
-ghost use Rattle.rules.specs.Store.{base as storedBase};
-ghost use Rattle.ledger.specs.Lent.{Fits, TableInside};
+ghost use Rattle.rules.specs.Store.{basePlace, blockWords, ledgerHeadBytes, lent, retype};
+ghost use Rattle.ledger.specs.Needs.{Fits, InLedger, TableInside, recordOf};
 
-// The place of the table's first record.
-pub fn table_record(level: Level, memory: &[u8], ledger: &[u8], block: u32) -> usize
-    requires { ⌜ Fits (now memory) (now ledger) × TableInside (levelOf level) (now memory) (now ledger) block ⌝ }
-    ensures { λ r. ⌜ (r ≡ block - storedBase (lent (now (memory .entry)) (now (ledger .entry)))) × (r < 2 ^ 20) ⌝ }
+// The word of the memory with which the table at a block begins.
+pub fn first_word(ledger: &[u8], block: u32) -> usize
+    requires { ⌜ (ledgerHeadBytes ≤ length (now ledger)) × (word (now ledger) basePlace ≤ block) ⌝ }
+    ensures { λ r. ⌜ r ≡ blockWords * recordOf (now (ledger .entry)) block ⌝ }
 {
-    (block - base(ledger)) as usize
-}
-
-// The word of the memory with which the table begins.
-pub fn first_word(level: Level, memory: &[u8], ledger: &[u8], block: u32) -> usize
-    requires { ⌜ Fits (now memory) (now ledger) × TableInside (levelOf level) (now memory) (now ledger) block ⌝ }
-    ensures { λ r. ⌜ r ≡ blockWords * (block - storedBase (lent (now (memory .entry)) (now (ledger .entry)))) ⌝ }
-{
-    BLOCK_WORDS as usize * table_record(level, memory, ledger, block)
+    BLOCK_WORDS as usize * record_of(ledger, block)
 }
 
 // "6 if any counter of its blocks is above 0"
@@ -44,7 +36,7 @@ pub fn is_counted(level: Level, memory: &[u8], ledger: &[u8], block: u32) -> boo
     requires { ⌜ TableInside (levelOf level) (now memory) (now ledger) block ⌝ }
     ensures { λ r. ⌜ r ≡ someCount (levelOf level) (lent (now (memory .entry)) (now (ledger .entry))) block ⌝ }
 {
-    let b = (block - base(ledger)) as usize;
+    let b = record_of(ledger, block);
     let m = table_blocks(level) as usize;
     if some_above_zero(ledger, WRITABLE, b, m) {
         return true;
@@ -67,8 +59,7 @@ fn is_linked(memory: &[u8], ledger: &[u8], block: u32) -> bool
     requires { ⌜ TableInside l2 (now memory) (now ledger) block ⌝ }
     ensures { λ r. ⌜ r ≡ inUse l2 (lent (now (memory .entry)) (now (ledger .entry))) block ⌝ }
 {
-    let b = (block - base(ledger)) as usize;
-    0 < record_word(ledger, LINKED, b)
+    0 < record_word(ledger, LINKED, record_of(ledger, block))
 }
 
 // "6 if active (L1) or l above 0 (L2)"

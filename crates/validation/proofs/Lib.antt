@@ -1,2 +1,2 @@
-pub mod Places
-pub mod Conflicts
+pub mod Covers
+pub mod Clashes

@@ -1,5 +1,3 @@
-pub mod Lent
-pub mod Entries
-pub mod Conflicts
-pub mod Bounds
-pub mod Judged
+pub mod Tests
+pub mod Needs
+pub mod Pieces

@@ -16,9 +16,10 @@ ghost use mathlib.Core.Path.{_≡_};
 ghost use Rattle.entries.specs.Meaning.{levelOf};
 ghost use Rattle.rules.specs.Refusals.{answerOf};
 ghost use Rattle.rules.specs.Store.{lent};
-ghost use Rattle.validation.specs.Entries.{HoldsWords, entryFrom};
-ghost use Rattle.validation.specs.Judged.{newEntries, oldEntries};
-ghost use Rattle.ledger.specs.Lent.{Fits};
+ghost use Rattle.ledger.specs.Needs.{Fits};
+ghost use Rattle.validation.specs.Needs.{HoldsWords};
+ghost use Rattle.validation.specs.Pieces.{newEntries, oldEntries};
+ghost use Rattle.validation.specs.Tests.{entryFrom};
 
 // The table is created at a block.
 pub fn new_entries_refusal(

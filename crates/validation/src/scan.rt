@@ -14,9 +14,9 @@ ghost use Rattle.entries.specs.Meaning.{levelOf};
 ghost use Rattle.rules.specs.Create.{misplaced};
 ghost use Rattle.rules.specs.Store.{counterLimit, lent};
 ghost use Rattle.rules.specs.Tables.{astray};
-ghost use Rattle.validation.specs.Bounds.{entryBeyond};
-ghost use Rattle.validation.specs.Entries.{HoldsWords, TablePlaced, entryFrom};
-ghost use Rattle.ledger.specs.Lent.{Fits};
+ghost use Rattle.ledger.specs.Needs.{Fits};
+ghost use Rattle.validation.specs.Needs.{HoldsWords, TablePlaced};
+ghost use Rattle.validation.specs.Tests.{entryBeyond, entryFrom};
 
 // Some entry is not of an accepted form.
 pub fn some_unaccepted(level: Level, memory: &[u8], j: usize, m: usize) -> bool
@@ -47,16 +47,10 @@ pub fn some_astray(level: Level, memory: &[u8], j: usize, m: usize, first: u32, 
 // Some counter by which an entry counts is above the limit.
 pub fn some_above_limit(level: Level, memory: &[u8], ledger: &[u8], j: usize, m: usize) -> bool
     requires { ⌜ TablePlaced (levelOf level) (now memory) (now ledger) j m ⌝ }
-    ensures { λ r. ⌜ r ≡ any m (λ i. entryBeyond 0 counterLimit (lent (now (memory .entry)) (now (ledger .entry))) (entryFrom (levelOf level) (now (memory .entry)) j i)) ⌝ }
+    ensures { λ r. ⌜ r ≡ any m (λ i. entryBeyond 0 counterLimit (now (ledger .entry)) (entryFrom (levelOf level) (now (memory .entry)) j i)) ⌝ }
 {
     for i in 0..m {
-        if entry_beyond(
-            memory,
-            ledger,
-            entry_at(level, memory, j + i),
-            0,
-            COUNTER_LIMIT,
-        ) {
+        if entry_beyond(ledger, entry_at(level, memory, j + i), 0, COUNTER_LIMIT) {
             return true;
         }
     }

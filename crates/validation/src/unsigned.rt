@@ -1,47 +1,47 @@
 // Refusal 12: an executable target is unsigned. Each different target is hashed once, for the first entry that executes it.
-use crate::place::place_unsigned;
+use crate::cover::cover_unsigned;
 use entries::decode::entry_at;
 use entries::entry::Entry;
 use entries::entry::Level;
-use entries::entry::first;
+use entries::entry::cover_blocks;
+use entries::entry::cover_first;
 use ledger::counters::Counter;
 use ledger::counters::grants;
-ghost use mathlib.Core.Bool.{_&&_};
 ghost use mathlib.Core.Path.{_≡_};
 ghost use Prim.Native.Nat.{_<_};
-ghost use lib.Dec.{eqb};
-ghost use Rattle.entries.specs.Entries.{first as firstBlock};
 ghost use Rattle.entries.specs.Meaning.{levelOf, meaning};
 ghost use Rattle.rules.specs.Create.{unsigned};
-ghost use Rattle.rules.specs.Store.{executable, lent, someRegionBlock};
-ghost use Rattle.rules.specs.Tables.{grants as grantsAny};
-ghost use Rattle.validation.specs.Conflicts.{executedBefore, firstUnsigned};
-ghost use Rattle.validation.specs.Entries.{HoldsWords, TablePlaced, entryFrom};
+ghost use Rattle.rules.specs.Store.{lent, someRegionBlock};
+ghost use Rattle.validation.specs.Needs.{HoldsWords, TablePlaced};
+ghost use Rattle.validation.specs.Tests.{entryFrom, executedBefore, executesExactly, firstUnsigned};
 
-// The entry executes the place that starts at block f.
-fn executes_from(e: Entry, f: u32) -> bool
-    ensures { λ r. ⌜ r ≡ (grantsAny executable (meaning e) && eqb (firstBlock (meaning e)) f) ⌝ }
+// The entry executes the n blocks from p on and no others.
+fn executes_exactly(e: Entry, p: u32, n: u32) -> bool
+    ensures { λ r. ⌜ r ≡ executesExactly p n (meaning e) ⌝ }
 {
-    if grants(Counter::Executable, e) {
-        return first(e) == f;
+    if !grants(Counter::Executable, e) {
+        return false;
     }
-    false
+    if cover_first(e) != p {
+        return false;
+    }
+    cover_blocks(e) == n
 }
 
 // One of the first i entries does.
-fn is_executed_before(level: Level, memory: &[u8], j: usize, i: usize, f: u32) -> bool
+fn is_executed_before(level: Level, memory: &[u8], j: usize, i: usize, p: u32, n: u32) -> bool
     requires { ⌜ HoldsWords (now memory) j i ⌝ }
-    ensures { λ r. ⌜ r ≡ executedBefore i (entryFrom (levelOf level) (now (memory .entry)) j) f ⌝ }
+    ensures { λ r. ⌜ r ≡ executedBefore i (entryFrom (levelOf level) (now (memory .entry)) j) p n ⌝ }
 {
     for k in 0..i {
-        if executes_from(entry_at(level, memory, j + k), f) {
+        if executes_exactly(entry_at(level, memory, j + k), p, n) {
             return true;
         }
     }
     false
 }
 
-// Entry i is the first that executes its place, and some block of it is unsigned.
+// Entry i is the first that executes what it covers, and some block of it is unsigned.
 fn is_first_unsigned(
     level: Level,
     memory: &[u8],
@@ -59,13 +59,13 @@ fn is_first_unsigned(
     if !grants(Counter::Executable, e) {
         return false;
     }
-    if is_executed_before(level, memory, j, i, first(e)) {
+    if is_executed_before(level, memory, j, i, cover_first(e), cover_blocks(e)) {
         return false;
     }
-    place_unsigned(memory, ledger, golden, e)
+    cover_unsigned(memory, ledger, golden, e)
 }
 
-// Each place that is executed is looked at once.
+// What several entries execute is looked at once.
 pub fn some_target_unsigned(
     level: Level,
     memory: &[u8],

@@ -1,11 +1,11 @@
 -- Each return is decided by the tests up to its own.
-use mathlib.Core.List.{[], _∷_}
 use mathlib.Core.Path.{sym, _∙_}
 use native.Mathlib.Omega.{arith}
+use borrow.Author.Needs.{needs}
+use Rattle.words.proofs.Bounded.{told}
 use Rattle.rules.proofs.Refusals.{passed, now}
 use Rattle.rules.proofs.State.{fits, within}
-use Rattle.ledger.proofs.Judge.{decides, here, past, refused, accepted, judged, told}
-use borrow.Author.Needs.{needs}
+use Rattle.ledger.proofs.Judge.{decides, here, past, refused, accepted, judged}
 use Rattle.tables.proofs.create.create_refusal.Statement.{statement}
 use Rattle.tables.proofs.create.create_refusal.Tie as tie
 
@@ -13,22 +13,29 @@ returns : tie.Need-returns
 returns c = decides (here (told (c .before .is-misfit-stored .ensures) (c .if1 .taken)))
 
 returns-2 : tie.Need-returns-2
-returns-2 c = decides (past (told (c .before .before .before .is-misfit-stored .ensures) (c .before .before .if1 .left)) (here (told (c .before .is-misfit-image .ensures) (c .if2 .taken))))
+returns-2 c = decides (past (told (c .before .before .before .is-misfit-stored .ensures) (c .before .before .if1 .left)) (refused _ _ (c .before .image-refusal .ensures) (c .if2 .taken)))
 
 table-refusal-requires : tie.Need-table-refusal-requires
 table-refusal-requires c κs = told (c .before .before .before .is-misfit-stored .ensures) (c .before .before .if1 .left)
 
 returns-3 : tie.Need-returns-3
-returns-3 c = decides (past (told (c .before .before .before .before .before .is-misfit-stored .ensures) (c .before .before .before .before .if1 .left)) (past (told (c .before .before .before .is-misfit-image .ensures) (c .before .before .if2 .left)) (refused _ (_ ∷ _ ∷ _ ∷ _ ∷ _ ∷ []) (c .before .table-refusal .ensures) (c .if3 .taken))))
+returns-3 c =
+    let image = passed _ (omega arith) (sym (c .before .before .before .image-refusal .ensures) ∙ c .before .before .if2 .left) in
+    decides (past (told (c .before .before .before .before .before .is-misfit-stored .ensures) (c .before .before .before .before .if1 .left)) (accepted image (refused _ _ (c .before .table-refusal .ensures) (c .if3 .taken))))
 
 is-counted-requires : tie.Need-is-counted-requires
 is-counted-requires c κs = (told (c .before .before .before .before .before .is-misfit-stored .ensures) (c .before .before .before .before .if1 .left), now (passed _ (omega arith) (sym (c .before .table-refusal .ensures) ∙ c .if3 .left)))
 
 returns-4 : tie.Need-returns-4
-returns-4 c = decides (past (told (c .before .before .before .before .before .before .before .is-misfit-stored .ensures) (c .before .before .before .before .before .before .if1 .left)) (past (told (c .before .before .before .before .before .is-misfit-image .ensures) (c .before .before .before .before .if2 .left)) (accepted (passed _ (omega arith) (sym (c .before .before .before .table-refusal .ensures) ∙ c .before .before .if3 .left)) (here (told (c .before .is-counted .ensures) (c .if4 .taken))))))
+returns-4 c =
+    let image = passed _ (omega arith) (sym (c .before .before .before .before .before .image-refusal .ensures) ∙ c .before .before .before .before .if2 .left) in
+    let place = passed _ (omega arith) (sym (c .before .before .before .table-refusal .ensures) ∙ c .before .before .if3 .left) in
+    decides (past (told (c .before .before .before .before .before .before .before .is-misfit-stored .ensures) (c .before .before .before .before .before .before .if1 .left)) (accepted image (accepted place (here (told (c .before .is-counted .ensures) (c .if4 .taken))))))
 
 first-word-requires : tie.Need-first-word-requires
-first-word-requires c κs = (told (c .before .before .before .before .before .before .before .is-misfit-stored .ensures) (c .before .before .before .before .before .before .if1 .left), now (passed _ (omega arith) (sym (c .before .before .before .table-refusal .ensures) ∙ c .before .before .if3 .left)))
+first-word-requires c κs =
+    let fit = fits _ _ (told (c .before .before .before .before .before .before .before .is-misfit-stored .ensures) (c .before .before .before .before .before .before .if1 .left)) in
+    (omega arith, within _ _ _ _ (now (passed _ (omega arith) (sym (c .before .before .before .table-refusal .ensures) ∙ c .before .before .if3 .left))) .0)
 
 new-entries-refusal-requires : tie.Need-new-entries-refusal-requires
 new-entries-refusal-requires c κs =
@@ -39,8 +46,10 @@ new-entries-refusal-requires c κs =
 
 returns-5 : tie.Need-returns-5
 returns-5 c =
+    let image = passed _ (omega arith) (sym (c .before .before .before .before .before .before .before .before .image-refusal .ensures) ∙ c .before .before .before .before .before .before .before .if2 .left) in
+    let place = passed _ (omega arith) (sym (c .before .before .before .before .before .before .table-refusal .ensures) ∙ c .before .before .before .before .before .if3 .left) in
     let entries-are = rw (c .before .before .first-word .ensures, c .before .table-entries .ensures) at (c .new-entries-refusal .ensures) in
-    decides (past (told (c .before .before .before .before .before .before .before .before .before .before .is-misfit-stored .ensures) (c .before .before .before .before .before .before .before .before .before .if1 .left)) (past (told (c .before .before .before .before .before .before .before .before .is-misfit-image .ensures) (c .before .before .before .before .before .before .before .if2 .left)) (accepted (passed _ (omega arith) (sym (c .before .before .before .before .before .before .table-refusal .ensures) ∙ c .before .before .before .before .before .if3 .left)) (past (told (c .before .before .before .before .is-counted .ensures) (c .before .before .before .if4 .left)) (judged _ entries-are)))))
+    decides (past (told (c .before .before .before .before .before .before .before .before .before .before .is-misfit-stored .ensures) (c .before .before .before .before .before .before .before .before .before .if1 .left)) (accepted image (accepted place (past (told (c .before .before .before .before .is-counted .ensures) (c .before .before .before .if4 .left)) (judged _ entries-are)))))
 
 pub create-refusal-spec : {M : Type 1} → statement M
 create-refusal-spec =

@@ -1,13 +1,13 @@
 -- Only what is writable is compared.
-use Rattle.ledger.proofs.Judge.{told}
-use Rattle.validation.specs.Conflicts.{meetsEntry}
 use borrow.Author.Needs.{needs}
+use Rattle.words.proofs.Bounded.{told}
+use Rattle.validation.specs.Tests.{meetsEntry}
 use Rattle.validation.proofs.clash.meets_entry.Statement.{statement}
 use Rattle.validation.proofs.clash.meets_entry.Tie as tie
 
 returns : tie.Need-returns
 unfolding meetsEntry
-returns c = rw (told (c .before .before .grants .ensures) (c .before .if1 .taken)) (c .some-executes-within .ensures)
+returns c = rw (told (c .before .before .grants .ensures) (c .before .if1 .taken)) (c .some-executes-on .ensures)
 
 returns-2 : tie.Need-returns-2
 unfolding meetsEntry

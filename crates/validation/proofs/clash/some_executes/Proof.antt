@@ -1,12 +1,11 @@
 -- The invariant: no entry passed executes.
 use Prim.Native.Nat.{_-_}
 use native.Mathlib.Omega.{arith}
-use Rattle.words.proofs.Bounded.{Scanned, scan-start, scan-next, scan-found, scan-end}
-use Rattle.ledger.proofs.Judge.{told}
+use Rattle.words.proofs.Bounded.{told, Scanned, scan-start, scan-next, scan-found, scan-end}
 use Rattle.entries.specs.Meaning.{levelOf}
 use Rattle.rules.specs.Store.{executable}
 use Rattle.rules.specs.Tables.{grants}
-use Rattle.validation.specs.Entries.{entryFrom}
+use Rattle.validation.specs.Tests.{entryFrom}
 use Rattle.validation.proofs.clash.some_executes.Statement.{statement}
 use Rattle.validation.proofs.clash.some_executes.Tie as tie
 

@@ -1,11 +1,9 @@
 -- The invariant: no entry passed writes where another executes.
 use Prim.Native.Nat.{_-_}
 use native.Mathlib.Omega.{arith}
-use Rattle.words.proofs.Bounded.{Scanned, scan-start, scan-next, scan-found, scan-end}
-use Rattle.ledger.proofs.Judge.{told}
+use Rattle.words.proofs.Bounded.{told, Scanned, scan-start, scan-next, scan-found, scan-end}
 use Rattle.entries.specs.Meaning.{levelOf}
-use Rattle.validation.specs.Conflicts.{meetsEntry}
-use Rattle.validation.specs.Entries.{entryFrom}
+use Rattle.validation.specs.Tests.{meetsEntry, entryFrom}
 use Rattle.validation.proofs.clash.some_meets_entry.Statement.{statement}
 use Rattle.validation.proofs.clash.some_meets_entry.Tie as tie
 

@@ -1,7 +1,8 @@
 -- Each return is decided by the tests up to its own. Where 10 has passed, the entries' places are in the region.
-use Rattle.ledger.proofs.Judge.{decides, none, here, past, told}
-use Rattle.validation.proofs.Conflicts.{all-placed}
 use borrow.Author.Needs.{needs}
+use Rattle.words.proofs.Bounded.{told}
+use Rattle.ledger.proofs.Judge.{decides, none, here, past}
+use Rattle.validation.proofs.Clashes.{all-placed}
 use Rattle.validation.proofs.refusal.new_entries_refusal.Statement.{statement}
 use Rattle.validation.proofs.refusal.new_entries_refusal.Tie as tie
 
@@ -12,13 +13,13 @@ returns-2 : tie.Need-returns-2
 returns-2 c = decides (past (told (c .before .before .before .some-unaccepted .ensures) (c .before .before .if1 .left)) (here (told (c .before .some-misplaced .ensures) (c .if2 .taken))))
 
 some-clash-requires : tie.Need-some-clash-requires
-some-clash-requires c κs = let pre = c .before .before .before .before .before .before .before .pre in (pre .0, pre .1, all-placed _ _ _ _ _ (told (c .before .some-misplaced .ensures) (c .if2 .left)))
+some-clash-requires c κs = record { fits = c .before .before .before .before .before .before .before .pre .0; holds = c .before .before .before .before .before .before .before .pre .1; placed = all-placed _ _ _ _ _ (told (c .before .some-misplaced .ensures) (c .if2 .left)) }
 
 returns-3 : tie.Need-returns-3
 returns-3 c = decides (past (told (c .before .before .before .before .before .some-unaccepted .ensures) (c .before .before .before .before .if1 .left)) (past (told (c .before .before .before .some-misplaced .ensures) (c .before .before .if2 .left)) (here (told (c .before .some-clash .ensures) (c .if3 .taken)))))
 
 some-target-unsigned-requires : tie.Need-some-target-unsigned-requires
-some-target-unsigned-requires c κs = let pre = c .before .before .before .before .before .before .before .before .before .pre in (pre .0, pre .1, all-placed _ _ _ _ _ (told (c .before .before .before .some-misplaced .ensures) (c .before .before .if2 .left)))
+some-target-unsigned-requires c κs = record { fits = c .before .before .before .before .before .before .before .before .before .pre .0; holds = c .before .before .before .before .before .before .before .before .before .pre .1; placed = all-placed _ _ _ _ _ (told (c .before .before .before .some-misplaced .ensures) (c .before .before .if2 .left)) }
 
 returns-4 : tie.Need-returns-4
 returns-4 c = decides (past (told (c .before .before .before .before .before .before .before .some-unaccepted .ensures) (c .before .before .before .before .before .before .if1 .left)) (past (told (c .before .before .before .before .before .some-misplaced .ensures) (c .before .before .before .before .if2 .left)) (past (told (c .before .before .before .some-clash .ensures) (c .before .before .if3 .left)) (here (told (c .before .some-target-unsigned .ensures) (c .if4 .taken))))))

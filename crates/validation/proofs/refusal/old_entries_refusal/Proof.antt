@@ -1,8 +1,9 @@
 -- Each return is decided by the tests up to its own.
 use native.Mathlib.Omega.{arith}
-use Rattle.rules.proofs.State.{fits}
-use Rattle.ledger.proofs.Judge.{decides, none, here, past, told}
 use borrow.Author.Needs.{needs}
+use Rattle.words.proofs.Bounded.{told}
+use Rattle.rules.proofs.State.{fits}
+use Rattle.ledger.proofs.Judge.{decides, none, here, past}
 use Rattle.validation.proofs.refusal.old_entries_refusal.Statement.{statement}
 use Rattle.validation.proofs.refusal.old_entries_refusal.Tie as tie
 

@@ -1,11 +1,10 @@
 -- The invariant: the places of the entries passed are in the region.
 use Prim.Native.Nat.{_-_}
 use native.Mathlib.Omega.{arith}
-use Rattle.words.proofs.Bounded.{Scanned, scan-start, scan-next, scan-found, scan-end}
-use Rattle.ledger.proofs.Judge.{told}
-use Rattle.rules.specs.Tables.{astray}
+use Rattle.words.proofs.Bounded.{told, Scanned, scan-start, scan-next, scan-found, scan-end}
 use Rattle.entries.specs.Meaning.{levelOf}
-use Rattle.validation.specs.Entries.{entryFrom}
+use Rattle.rules.specs.Tables.{astray}
+use Rattle.validation.specs.Tests.{entryFrom}
 use Rattle.validation.proofs.scan.some_astray.Statement.{statement}
 use Rattle.validation.proofs.scan.some_astray.Tie as tie
 

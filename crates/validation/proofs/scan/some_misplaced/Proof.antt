@@ -1,12 +1,11 @@
 -- The invariant: the places and targets of the entries passed are fit.
 use Prim.Native.Nat.{_-_}
 use native.Mathlib.Omega.{arith}
-use Rattle.words.proofs.Bounded.{Scanned, scan-start, scan-next, scan-found, scan-end}
-use Rattle.ledger.proofs.Judge.{told}
+use Rattle.words.proofs.Bounded.{told, Scanned, scan-start, scan-next, scan-found, scan-end}
 use Rattle.entries.specs.Meaning.{levelOf}
 use Rattle.rules.specs.Store.{lent}
 use Rattle.rules.specs.Create.{misplaced}
-use Rattle.validation.specs.Entries.{entryFrom}
+use Rattle.validation.specs.Tests.{entryFrom}
 use Rattle.validation.proofs.scan.some_misplaced.Statement.{statement}
 use Rattle.validation.proofs.scan.some_misplaced.Tie as tie
 

@@ -1,11 +1,10 @@
 -- The invariant: the entries passed are of accepted forms.
 use Prim.Native.Nat.{_-_}
 use native.Mathlib.Omega.{arith}
-use Rattle.words.proofs.Bounded.{Scanned, scan-start, scan-next, scan-found, scan-end}
-use Rattle.ledger.proofs.Judge.{told}
+use Rattle.words.proofs.Bounded.{told, Scanned, scan-start, scan-next, scan-found, scan-end}
 use Rattle.entries.specs.Entries.{isUnaccepted}
 use Rattle.entries.specs.Meaning.{levelOf}
-use Rattle.validation.specs.Entries.{entryFrom}
+use Rattle.validation.specs.Tests.{entryFrom}
 use Rattle.validation.proofs.scan.some_unaccepted.Statement.{statement}
 use Rattle.validation.proofs.scan.some_unaccepted.Tie as tie
 

@@ -1,8 +1,8 @@
 -- One counter after the other.
-use Rattle.ledger.proofs.Judge.{told}
-use Rattle.validation.specs.Bounds.{entryBeyond}
-use Rattle.rules.specs.Store.{someCounter}
 use borrow.Author.Needs.{needs}
+use Rattle.words.proofs.Bounded.{told}
+use Rattle.rules.specs.Store.{someCounter}
+use Rattle.validation.specs.Tests.{entryBeyond}
 use Rattle.validation.proofs.target.entry_beyond.Statement.{statement}
 use Rattle.validation.proofs.target.entry_beyond.Tie as tie
 

@@ -1,7 +1,7 @@
 -- Write onto execute, then execute onto write.
-use Rattle.ledger.proofs.Judge.{told}
-use Rattle.validation.specs.Conflicts.{meetsCount}
 use borrow.Author.Needs.{needs}
+use Rattle.words.proofs.Bounded.{told}
+use Rattle.validation.specs.Tests.{meetsCount}
 use Rattle.validation.proofs.target.meets_count.Statement.{statement}
 use Rattle.validation.proofs.target.meets_count.Tie as tie
 
