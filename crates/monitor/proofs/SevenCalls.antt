@@ -1,7 +1,6 @@
 -- An instance of the theorem: a begin over eight blocks of zeros, and the six calls behind it that end in a fetch of signed code.
 use mathlib.Core.List.{List, [], _∷_}
 use mathlib.Core.Path.{_≡_, refl}
-use Prim.Native.Nat.{ℕ}
 use lib.ListN.{drop}
 use Rattle.rules.specs.Steps.{Step, begins, obey, run, Run}
 use Rattle.rules.specs.Upheld.{Upheld}

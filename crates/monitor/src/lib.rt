@@ -2,6 +2,7 @@
 // answer, what is given with it, and every byte of memory and ledger afterwards.
 use entries::entry::Level;
 use mapping::form::Form;
+use mapping::request::Request;
 ghost use mathlib.Core.Path.{_≡_};
 ghost use Rattle.rules.specs.Begin.{beginOutcome};
 ghost use Rattle.entries.specs.Entries.{l1, l2};
@@ -84,16 +85,13 @@ pub extern "C" fn pagemon_map_l1(
     ensures { λ r. ⌜ r ≡ mapOutcome sections (now (golden .entry)) (lent (now (memory .entry)) (now (ledger .entry))) block index target rights .answer ⌝ }
     ensures { λ r. ⌜ lent (now (memory .exit)) (now (ledger .exit)) ≡ mapOutcome sections (now (golden .entry)) (lent (now (memory .entry)) (now (ledger .entry))) block index target rights .after ⌝ }
 {
-    mapping::map::map(
-        Form::Sections,
-        memory,
-        ledger,
-        golden,
+    let request = Request {
         block,
         index,
         target,
         rights,
-    )
+    };
+    mapping::map::map(Form::Sections, memory, ledger, golden, request)
 }
 
 // Map L2: a page with these rights, at an index of a table.
@@ -110,16 +108,13 @@ pub extern "C" fn pagemon_map_l2(
     ensures { λ r. ⌜ r ≡ mapOutcome pages (now (golden .entry)) (lent (now (memory .entry)) (now (ledger .entry))) block index target rights .answer ⌝ }
     ensures { λ r. ⌜ lent (now (memory .exit)) (now (ledger .exit)) ≡ mapOutcome pages (now (golden .entry)) (lent (now (memory .entry)) (now (ledger .entry))) block index target rights .after ⌝ }
 {
-    mapping::map::map(
-        Form::Pages,
-        memory,
-        ledger,
-        golden,
+    let request = Request {
         block,
         index,
         target,
         rights,
-    )
+    };
+    mapping::map::map(Form::Pages, memory, ledger, golden, request)
 }
 
 // Link: an L2 table, at an index of an L1 table.

@@ -5,8 +5,8 @@ use mathlib.Core.Option.{Option, none, some, Option·none-ne-some}
 use mathlib.Core.Path.{_≡_, refl, sym, _∙_}
 use Prim.Native.Nat.{ℕ, zero, suc, _+_, _*_, _<_, _≤_}
 use native.Mathlib.Omega.{arith}
-use borrow.Author.Tests.{ltb-false}
 use lib.ListN.{length, List·getD-eq-default}
+use borrow.Author.Tests.{ltb-false}
 use Rattle.words.proofs.Bounded.{or-false-left}
 use Rattle.rules.specs.Steps.{Step}
 use Rattle.steps.specs.Records.{calls, stepOf, recordBytes, short, unmarked, stepAt, andThen, stepsFrom}

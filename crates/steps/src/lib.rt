@@ -1,4 +1,8 @@
 // Lists of steps: records of calls, obeyed one after the other by the monitor's exported calls.
+use crate::records::RECORD_BYTES;
+use crate::records::decode;
+use crate::runner::obey_record;
+use crate::runner::smaller;
 ghost use mathlib.Core.Path.{_≡_};
 ghost use lib.ListN.{length, take};
 ghost use Rattle.words.specs.Lists.{putList};
@@ -6,9 +10,9 @@ ghost use Rattle.rules.specs.Store.{lent};
 ghost use Rattle.rules.specs.Upheld.{Upholds};
 ghost use Rattle.steps.specs.Records.{ran, room, stepsIn};
 
-pub mod records;
-pub mod runner;
-pub mod step;
+pub mod records; // records.rt: the step that a record holds
+pub mod runner; // runner.rt: a record is obeyed
+pub mod step; // step.rt: a step calls the monitor
 
 // Obeys the records up to the first that holds no step, as many as there is room for their answers and bytes, and says how many they were. Demand 3
 // holds of what is left and handed out.
@@ -27,5 +31,18 @@ pub extern "C" fn pagemon_run(
     ensures { λ r. ⌜ now (bytes .exit) ≡ putList (now (bytes .entry)) 0 (ran (now (golden .entry)) (lent (now (memory .entry)) (now (ledger .entry))) (now (records .entry)) (now (answers .entry)) (now (bytes .entry)) .bytes) ⌝ }
     ensures { λ r. ⌜ Upholds (now (golden .entry)) (lent (now (memory .entry)) (now (ledger .entry))) (stepsIn (now (records .entry)) (room (now (answers .entry)) (now (bytes .entry)))) (lent (now (memory .exit)) (now (ledger .exit))) (take r (now (answers .exit))) (take r (now (bytes .exit))) ⌝ }
 {
-    runner::run_records(memory, ledger, golden, records, answers, bytes)
+    let room = smaller(answers.len(), bytes.len());
+    let mut i = 0;
+    let mut at = 0;
+    while i < room {
+        let turn = obey_record(decode(records, at), memory, ledger, golden);
+        if !turn.obeyed {
+            return i;
+        }
+        answers[i] = turn.reply.answer;
+        bytes[i] = turn.reply.byte;
+        i += 1;
+        at += RECORD_BYTES;
+    }
+    i
 }

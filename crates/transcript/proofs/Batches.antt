@@ -3,19 +3,19 @@ use mathlib.Core.List.{List, append-nil}
 use mathlib.Core.Path.{_≡_, refl, sym, _∙_, ap}
 use Prim.Native.Nat.{ℕ, zero, suc, _+_, _-_, _*_, _^_, _≤_, _<_}
 use native.Mathlib.Omega.{arith}
-use borrow.Author.Tests.{lt-ltb, le-ltb}
 use lib.ListN.{length, getD, drop, List·getD-append}
+use borrow.Author.Tests.{lt-ltb, le-ltb}
 use Rattle.words.specs.Lists.{putList}
 use Rattle.words.proofs.Lists.{length-putList, putList-between}
-use Rattle.lines.specs.declared.Line.the-variants.{Bad}
-use Rattle.lines.specs.Lines.{longestLine, fitting}
-use Rattle.lines.specs.Stored.{Stored}
-use Rattle.lines.proofs.Lines.{fitting-line, longest-bad, stored-line}
 use Rattle.rules.specs.Store.{Store}
 use Rattle.rules.specs.Steps.{run}
 use Rattle.rules.proofs.Runs.{length-answers, length-bytes}
 use Rattle.steps.specs.Records.{recordBytes, stepsIn, room, ran}
 use Rattle.steps.proofs.Decoding.{within-room, within-records}
+use Rattle.lines.specs.declared.Line.the-variants.{Bad}
+use Rattle.lines.specs.Lines.{longestLine, fitting}
+use Rattle.lines.specs.Stored.{Stored}
+use Rattle.lines.proofs.Lines.{fitting-line, longest-bad, stored-line}
 use Rattle.transcript.specs.Transcript.{transcript, printed, batch, batchSteps}
 
 -- lines by answers and bytes that agree are the same

@@ -9,12 +9,12 @@ use lib.Dec.{eqb}
 use lib.ListN.{length, getD}
 use Rattle.words.specs.Lists.{putList}
 use Rattle.words.proofs.Lists.{length-putList}
+use Rattle.steps.specs.Records.{recordBytes, callPlace}
 use Rattle.lines.specs.declared.Line.{Line}
 use Rattle.lines.specs.declared.Line.the-variants.{Answer, AnswerWithByte}
 use Rattle.lines.specs.Lines.{textOf, longestLine, fitting}
 use Rattle.lines.specs.Stored.{Stored}
 use Rattle.lines.proofs.Lines.{longest-answer, longest-answer-with-byte, fitting-line, stored-line}
-use Rattle.steps.specs.Records.{recordBytes, callPlace}
 use Rattle.transcript.specs.Transcript.{givesByte, lineOf, transcript}
 
 longest : (call answer byte : ℕ) → call < 2 ^ 8 → answer < 2 ^ 32 → byte < 2 ^ 8 → length (textOf (lineOf call answer byte)) ≤ longestLine

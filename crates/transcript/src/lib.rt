@@ -1,5 +1,4 @@
 // What the program prints of a list of records.
-use lines::LONGEST_LINE;
 use lines::Line;
 use lines::put_line;
 use steps::pagemon_run;
@@ -7,7 +6,6 @@ use steps::records::CALL_PLACE;
 use steps::records::RECORD_BYTES;
 ghost use mathlib.Core.Path.{_≡_};
 ghost use Prim.Native.Nat.{_+_, _*_, _^_, _<_, _≤_};
-ghost use lib.Dec.{ltb};
 ghost use lib.ListN.{length};
 ghost use Rattle.lines.specs.Lines.{longestLine};
 ghost use Rattle.lines.specs.Stored.{Stored};

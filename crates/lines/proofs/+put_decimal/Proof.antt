@@ -1,7 +1,7 @@
 -- `lines::put_decimal` meets its contract: what is stored is one digit, or the digits of v / 10 and the last digit behind them. The measure is v.
-use Prim.Native.Nat.{ℕ, _/_, _%_, _<_}
 use mathlib.Core.List.{[], _∷_}
 use mathlib.Core.Path.{_∙_}
+use Prim.Native.Nat.{ℕ, _/_, _%_, _<_}
 use native.Mathlib.Omega.{arith}
 use borrow.Fn.Kinds.{In}
 use borrow.Fn.PlainCycle.{Measures, is, falls, and}

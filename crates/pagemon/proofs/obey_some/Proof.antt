@@ -1,7 +1,7 @@
 -- The text has room for a batch's lines.
-use borrow.Author.Needs.{needs}
 use mathlib.Core.Path.{sym}
 use lib.Seq.{length-take-le}
+use borrow.Author.Needs.{needs}
 use Rattle.pagemon.proofs.obey_some.Statement.{statement}
 use Rattle.pagemon.proofs.obey_some.Tie as tie
 

@@ -1,6 +1,6 @@
 -- A bad record has its line after those of the records obeyed.
-use borrow.Author.Needs.{needs}
 use native.Mathlib.Omega.{arith}
+use borrow.Author.Needs.{needs}
 use Rattle.transcript.proofs.Batches.{printed-good, printed-bad, bad-ends}
 use Rattle.transcript.proofs.obey_batch.Statement.{statement}
 use Rattle.transcript.proofs.obey_batch.Tie as tie

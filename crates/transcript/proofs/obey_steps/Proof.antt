@@ -1,8 +1,8 @@
 -- The runner's outputs are of a batch's length, so its steps are the batch's.
-use borrow.Author.Needs.{needs}
 use Prim.Native.Nat.{ℕ}
 use native.Mathlib.Omega.{arith}
 use lib.ListN.{length-replicate}
+use borrow.Author.Needs.{needs}
 use Rattle.rules.specs.Store.{lent}
 use Rattle.transcript.proofs.Batches.{batched}
 use Rattle.transcript.proofs.obey_steps.Statement.{statement}

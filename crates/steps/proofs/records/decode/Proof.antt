@@ -1,6 +1,6 @@
 -- A record of the right shape holds what its call byte and words say.
-use borrow.Author.Needs.{needs}
 use mathlib.Core.Path.{sym, _∙_}
+use borrow.Author.Needs.{needs}
 use Rattle.steps.specs.Records.{stepAt}
 use Rattle.steps.proofs.Decoding.{whole}
 use Rattle.steps.proofs.records.decode.Statement.{statement}

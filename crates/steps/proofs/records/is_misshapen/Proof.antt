@@ -1,9 +1,9 @@
 -- Each return is decided by the tests up to its own.
+use Prim.Native.Nat.{_+_}
+use native.Mathlib.Omega.{arith}
+use lib.ListN.{length}
 use borrow.Author.Needs.{needs}
 use borrow.Author.Tests.{lt-ltb, le-ltb}
-use Prim.Native.Nat.{_+_}
-use lib.ListN.{length}
-use native.Mathlib.Omega.{arith}
 use Rattle.words.proofs.Bounded.{differ, same}
 use Rattle.steps.specs.Records.{recordBytes}
 use Rattle.steps.proofs.records.is_misshapen.Statement.{statement}

@@ -1,6 +1,6 @@
 -- A record that holds a step is obeyed; of another nothing comes.
-use borrow.Author.Needs.{needs}
 use mathlib.Core.Path.{refl}
+use borrow.Author.Needs.{needs}
 use Rattle.steps.specs.Turns.{isStep, attempt}
 use Rattle.steps.proofs.runner.obey_record.Statement.{statement}
 use Rattle.steps.proofs.runner.obey_record.Tie as tie

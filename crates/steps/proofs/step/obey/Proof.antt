@@ -1,8 +1,8 @@
 -- Each arm calls the exported function that the step names, and what that promises is the step's call.
-use borrow.Author.Needs.{needs}
 use mathlib.Core.List.{List}
 use mathlib.Core.Path.{_≡_, _∙_}
 use Prim.Native.Nat.{ℕ}
+use borrow.Author.Needs.{needs}
 use Rattle.rules.specs.Store.{Store}
 use Rattle.rules.specs.Steps.{Step, obey}
 use Rattle.monitor.specs.Calls.{Called, pagemon-begin, pagemon-create-l1, pagemon-create-l2, pagemon-free-l1, pagemon-free-l2, pagemon-map-l1, pagemon-map-l2, pagemon-link, pagemon-unmap-l1, pagemon-unmap-l2, pagemon-switch, pagemon-read, pagemon-fetch, pagemon-write}
