@@ -2,5 +2,5 @@
 fn main() {
     let libraries = concat!(env!("CARGO_MANIFEST_DIR"), "/../target/staticlib");
     println!("cargo:rustc-link-search=native={libraries}");
-    println!("cargo:rerun-if-changed={libraries}");
+    println!("cargo:rerun-if-changed={libraries}/libmonitor.a");
 }

@@ -2,5 +2,7 @@
 fn main() {
     let libraries = concat!(env!("CARGO_MANIFEST_DIR"), "/../target/staticlib");
     println!("cargo:rustc-link-search=native={libraries}");
-    println!("cargo:rerun-if-changed={libraries}");
+    for library in ["signature", "monitor", "steps"] {
+        println!("cargo:rerun-if-changed={libraries}/lib{library}.a");
+    }
 }

@@ -16,9 +16,14 @@ use program::{Monitor, Plain};
 use std::process::ExitCode;
 use std::time::Duration;
 use timing::{measure, run, Start};
-use workloads::{Scene, Workload, CALLS, HASHING_CALLS};
+use workloads::{Scene, Workload, CALLS, HASHING_CALLS, HOSTILE_TABLES};
 
 const REGIONS: [usize; 3] = [64, 512, 4096];
+
+/// Every line of the table.
+fn workloads() -> impl Iterator<Item = &'static Workload> {
+    CALLS.iter().chain(&HASHING_CALLS).chain(&HOSTILE_TABLES)
+}
 
 /// How much is done: random calls to compare, and time for one line of the table.
 struct Effort {
@@ -30,7 +35,7 @@ const WHOLE: Effort = Effort { random_calls: 48_000, time: Duration::from_millis
 const QUICK: Effort = Effort { random_calls: 6_000, time: Duration::from_millis(3) };
 
 fn check(random_calls: usize) {
-    for workload in CALLS.iter().chain(&HASHING_CALLS) {
+    for workload in workloads() {
         for blocks in REGIONS.into_iter().filter(|blocks| *blocks >= workload.least) {
             let mut scene = Scene::new(blocks);
             let batch = (workload.make)(&mut scene);
@@ -47,13 +52,13 @@ fn print_line(workload: &Workload, blocks: usize, time: Duration) {
     let measured = measure(&batch, &mut scene.lent, time);
     let ratio = measured.monitor / measured.plain;
     let (name, monitor, plain) = (workload.name, measured.monitor, measured.plain);
-    println!("| {name:<39} | {blocks:>5} | {monitor:>10.1} | {plain:>10.1} | {ratio:>6.2} |");
+    println!("| {name:<41} | {blocks:>5} | {monitor:>10.1} | {plain:>10.1} | {ratio:>6.2} |");
 }
 
 fn print_table(time: Duration) {
-    println!("| {:<39} | {:>5} | {:>10} | {:>10} | {:>6} |", "call", "n", "monitor ns", "plain ns", "ratio");
-    println!("|{:-<41}|{:->7}|{:->12}|{:->12}|{:->8}|", "", ":", ":", ":", ":");
-    for workload in CALLS.iter().chain(&HASHING_CALLS) {
+    println!("| {:<41} | {:>5} | {:>10} | {:>10} | {:>6} |", "call", "n", "monitor ns", "plain ns", "ratio");
+    println!("|{:-<43}|{:->7}|{:->12}|{:->12}|{:->8}|", "", ":", ":", ":", ":");
+    for workload in workloads() {
         for blocks in REGIONS.into_iter().filter(|blocks| *blocks >= workload.least) {
             print_line(workload, blocks, time);
         }
@@ -73,9 +78,8 @@ pub fn counted_run(run: &mut dyn FnMut()) {
 }
 
 fn count(name: &str, times: usize, program: &str, blocks: usize) -> Result<(), String> {
-    let all = || CALLS.iter().chain(&HASHING_CALLS);
-    let names: Vec<_> = all().map(|workload| workload.name).collect();
-    let workload = all().find(|workload| workload.name == name);
+    let names: Vec<_> = workloads().map(|workload| workload.name).collect();
+    let workload = workloads().find(|workload| workload.name == name);
     let workload = workload.ok_or(format!("no call {name:?}; there are\n{}", names.join("\n")))?;
     if blocks < workload.least {
         return Err(format!("{name:?} needs {} blocks", workload.least));

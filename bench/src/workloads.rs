@@ -136,6 +136,29 @@ impl Scene {
         }
     }
 
+    /// The words of a whole table, entry by entry.
+    fn written(&mut self, block: u32, entries: u32, word: impl Fn(&Scene, u32) -> u32) {
+        for i in 0..entries {
+            let word = word(self, i);
+            self.put_entry(block, i, word);
+        }
+    }
+
+    fn pages(&mut self, word: impl Fn(&Scene, u32) -> u32) -> Vec<[u32; 4]> {
+        self.written(L2_BLOCK, 1024, word);
+        vec![[L2_BLOCK, 0, 0, 0]]
+    }
+
+    fn sections(&mut self, word: impl Fn(&Scene, u32) -> u32) -> Vec<[u32; 4]> {
+        self.written(L1_TABLE, 4096, word);
+        vec![[L1_TABLE, 0, 0, 0]]
+    }
+
+    /// Every block of zeros is signed.
+    fn sign_zeros(&mut self) {
+        self.lent.golden = sha256(&[0; BLOCK]).to_vec();
+    }
+
     /// Executable pages, in turn of each target.
     fn written_targets(&mut self, pages: u32) {
         self.sign_targets();
@@ -143,6 +166,25 @@ impl Scene {
             self.put_entry(L2_BLOCK, i, (DATA + i % TARGETS) << 12 | 0x02E);
         }
     }
+}
+
+/// The words of a page and of a section with some rights.
+fn page(block: u32, rights: u32) -> u32 {
+    let access = match rights {
+        READ_ONLY => 0x02F,
+        READ_WRITE => 0x03F,
+        _ => 0x02E,
+    };
+    block << 12 | access
+}
+
+fn section(first: u32, rights: u32) -> u32 {
+    let access = match rights {
+        READ_ONLY => 0x81E,
+        READ_WRITE => 0xC1E,
+        _ => 0x80E,
+    };
+    first << 12 | access
 }
 
 /// A batch of accepted calls.
@@ -172,7 +214,7 @@ const fn workload(name: &'static str, least: usize, make: fn(&mut Scene) -> Batc
 }
 
 /// Calls that hash nothing.
-pub static CALLS: [Workload; 30] = [
+pub static CALLS: [Workload; 34] = [
     workload("begin", 64, |_| accepted(Begin, vec![[FIRST, 0, 0, 0]; 64])),
     workload("create L1, empty", 64, |_| accepted(CreateL1, vec![[L1_TABLE, 0, 0, 0]])),
     workload("create L1, 16 sections, 64 links", 512, |scene| {
@@ -187,6 +229,19 @@ pub static CALLS: [Workload; 30] = [
     workload("create L2, 1,024 mixed pages", 64, |scene| {
         scene.written_mixed_pages();
         accepted(CreateL2, vec![[L2_BLOCK, 0, 0, 0]])
+    }),
+    workload("create L2, 1,024 read-only pages", 64, |scene| {
+        accepted(CreateL2, scene.pages(|scene, i| page(scene.data(i), READ_ONLY)))
+    }),
+    workload("create L2, 64 scattered pages", 64, |scene| {
+        let word = |scene: &Scene, i: u32| if i % 16 == 5 { page(scene.data(97 * i), READ_WRITE) } else { 0 };
+        accepted(CreateL2, scene.pages(word))
+    }),
+    workload("create L1, 4,096 read-only sections", 512, |scene| {
+        accepted(CreateL1, scene.sections(|scene, i| section(scene.section(i), READ_ONLY)))
+    }),
+    workload("create L1, 4,096 writable sections", 512, |scene| {
+        accepted(CreateL1, scene.sections(|scene, i| section(scene.section(i), READ_WRITE)))
     }),
     workload("free L1, empty", 64, |scene| {
         scene.tables();
@@ -316,5 +371,99 @@ pub static HASHING_CALLS: [Workload; 3] = [
         scene.tables();
         scene.sign_targets();
         accepted(MapL2, (0..TARGETS).map(|i| [L2_BLOCK, i, DATA + i, READ_EXECUTE]).collect())
+    }),
+];
+
+/// Tables that a guest writes to make create slow: entries that write beside entries that execute, and many entries that execute the same.
+/// Where 12 is the answer, one block is hashed; else each different one that is executed.
+pub static HOSTILE_TABLES: [Workload; 12] = [
+    workload("create L2, 1,023 writable, 1 executable", 64, |scene| {
+        let word = |scene: &Scene, i| {
+            if i < 1023 {
+                page(scene.data(i % 16), READ_WRITE)
+            } else {
+                page(scene.data(16), READ_EXECUTE)
+            }
+        };
+        Batch { kind: CreateL2, words: scene.pages(word), answer: 12 }
+    }),
+    workload("create L2, half writable, half executable", 64, |scene| {
+        let word = |scene: &Scene, i| {
+            if i < 512 {
+                page(scene.data(i % 16), READ_WRITE)
+            } else {
+                page(scene.data(16 + i % 16), READ_EXECUTE)
+            }
+        };
+        Batch { kind: CreateL2, words: scene.pages(word), answer: 12 }
+    }),
+    workload("create L2, the same, but one clashes", 64, |scene| {
+        let word = |scene: &Scene, i| match i {
+            0..511 => page(scene.data(i % 16), READ_WRITE),
+            511 => page(scene.data(16), READ_WRITE),
+            _ => page(scene.data(16 + i % 16), READ_EXECUTE),
+        };
+        Batch { kind: CreateL2, words: scene.pages(word), answer: 11 }
+    }),
+    workload("create L2, executable, read-only in turn", 64, |scene| {
+        scene.sign_zeros();
+        accepted(
+            CreateL2,
+            scene.pages(|scene, i| page(scene.data(0), if i % 2 == 0 { READ_EXECUTE } else { READ_ONLY })),
+        )
+    }),
+    workload("create L2, read-only, then executable", 64, |scene| {
+        scene.sign_zeros();
+        accepted(CreateL2, scene.pages(|scene, i| page(scene.data(0), if i < 512 { READ_ONLY } else { READ_EXECUTE })))
+    }),
+    workload("create L2, 1,024 executable pages of one", 64, |scene| {
+        scene.sign_zeros();
+        accepted(CreateL2, scene.pages(|scene, _| page(scene.data(0), READ_EXECUTE)))
+    }),
+    workload("create L1, 4,095 writable, 1 executable", 512, |scene| {
+        let word = |scene: &Scene, i| {
+            if i < 4095 {
+                section(scene.section(i), READ_WRITE)
+            } else {
+                section(FIRST, READ_EXECUTE)
+            }
+        };
+        Batch { kind: CreateL1, words: scene.sections(word), answer: 12 }
+    }),
+    workload("create L1, half writable, half executable", 512, |scene| {
+        let word = |scene: &Scene, i| {
+            if i < 2048 {
+                section(scene.section(i), READ_WRITE)
+            } else {
+                section(FIRST, READ_EXECUTE)
+            }
+        };
+        Batch { kind: CreateL1, words: scene.sections(word), answer: 12 }
+    }),
+    workload("create L1, the same, but one clashes", 512, |scene| {
+        let word = |scene: &Scene, i| match i {
+            0..2048 => section(scene.section(i), READ_WRITE),
+            2048 => section(scene.section(0), READ_EXECUTE),
+            _ => section(FIRST, READ_EXECUTE),
+        };
+        Batch { kind: CreateL1, words: scene.sections(word), answer: 11 }
+    }),
+    workload("create L1, executable, read-only in turn", 512, |scene| {
+        scene.sign_zeros();
+        accepted(
+            CreateL1,
+            scene.sections(|scene, i| section(scene.section(0), if i % 2 == 0 { READ_EXECUTE } else { READ_ONLY })),
+        )
+    }),
+    workload("create L1, read-only, then executable", 512, |scene| {
+        scene.sign_zeros();
+        accepted(
+            CreateL1,
+            scene.sections(|scene, i| section(scene.section(0), if i < 2048 { READ_ONLY } else { READ_EXECUTE })),
+        )
+    }),
+    workload("create L1, 4,096 executable sections", 512, |scene| {
+        scene.sign_zeros();
+        accepted(CreateL1, scene.sections(|scene, i| section(scene.section(i), READ_EXECUTE)))
     }),
 ];

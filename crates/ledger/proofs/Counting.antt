@@ -1,49 +1,82 @@
 -- Laws of counters: changing word by word what entries give, once to each of adjacent blocks, is recounting the whole ledger with them.
-use mathlib.Core.Bool.{Bool, true, false, cond, _&&_, _||_, and-false}
+use mathlib.Core.Bool.{Bool, true, false, cond, _&&_, _||_, and-false, or-false}
 use mathlib.Core.List.{List}
 use mathlib.Core.Logic.{_≢_, ⊎-elim}
 use mathlib.Core.Path.{_≡_, refl, sym, _∙_, ap}
-use Prim.Native.Nat.{ℕ, zero, suc, _+_, _-_, _*_, _^_, _<_, _≤_}
-use native.Mathlib.Nat.{add-zero}
+use Prim.Native.Nat.{ℕ, zero, suc, _+_, _-_, _*_, _/_, _%_, _^_, _<_, _≤_}
+use native.Mathlib.Nat.{add-zero, div-div-eq-div-mul}
 use native.Mathlib.Numerals.{add-one}
 use native.Mathlib.Omega.{arith}
-use lib.Dec.{leb, ltb}
+use lib.Arith.{mod-mul}
+use lib.Dec.{eqb, ltb}
 use lib.ListN.{length}
-use borrow.Author.Tests.{lt-ltb, le-ltb, le-leb, lt-leb, ltb-true, ltb-false}
-use Rattle.words.specs.Bounded.{above, among, any, num, sum}
-use Rattle.words.specs.Words.{word}
-use Rattle.words.proofs.Bounded.{both-ways, below-or-above, last-or-below, window-or-outside, true-unless, and-true, and-true-left, and-true-right, or-false-left, among-in, among-out, among-within, any-none, any-hit, any-found, and-false-right}
+use borrow.Author.Tests.{not-true, lt-ltb, le-ltb, ltb-true, ltb-false, eq-eqb, eqb-true, eqb-false}
+use Rattle.words.specs.Bounded.{above, neqb, among, num, sum}
+use Rattle.words.specs.Words.{word, bits}
+use Rattle.words.proofs.Bounded.{both-ways, below-or-above, differ, or-left, or-right, or-cases, last-or-below, window-or-outside, true-unless, and-true, and-true-left, or-false-left, among-in, among-out, among-within, and-false-right}
 use Rattle.words.proofs.Words.{Bytes, bytes-putWord}
-use Rattle.entries.specs.Entries.{Entry, coverFirst, coverBlocks, covers}
+use Rattle.entries.specs.Entries.{Entry, isFault, isLink, rights, coverFirst, coverBlocks, covers}
+use Rattle.entries.specs.Rights.{write, execute, allows}
 use Rattle.rules.specs.Store.{ledgerHeadBytes, ledgerRecordBytes, basePlace, counterLimit, Store, blocks, base, recordWord, putRecordWord, typeWord, Counter, writable, executable, linked, counterWord, someCounter, counter, someBlock, misfit, lent}
 use Rattle.rules.specs.Tables.{grants, gives, gain, astray}
 use Rattle.rules.specs.General.{Change, added, removed, endValue, endsBelow, overruns, someOverrun, recounted}
-use Rattle.rules.proofs.Gains.{grants-place, gain-none}
+use Rattle.rules.proofs.Gains.{fault-is, grants-place, gain-none}
 use Rattle.rules.proofs.Ledger.{InRecord, counter-in-record, counter-not-type, length-putRecordWord, head-putRecordWord, recordWord-put-same, recordWord-put-other}
-use Rattle.rules.proofs.State.{fits, within, inside, no-counter, some-counter-found, some-counter-hit}
-use Rattle.rules.proofs.Changes.{counter-at, end, length-recounted, head-recounted, type-recounted, counter-recounted}
+use Rattle.rules.proofs.State.{fits, within, inside, some-block-hit, some-block-found, no-block-at, no-counter, some-counter-found, some-counter-hit}
+use Rattle.rules.proofs.Changes.{end, length-recounted, head-recounted, type-recounted, counter-recounted}
 use Rattle.rules.proofs.Walk.{cover-within}
-use Rattle.ledger.specs.Counters.{Spreads, counterOverruns, changed, changedCounter}
+use Rattle.ledger.specs.Counters.{Spreads, beyond, counterBeyond, blocksBeyond, leastBefore, mostBefore, changed, changedCounter}
 use Rattle.ledger.specs.Needs.{Changeable, recordOf, GrantsInside, GrantsRecorded, Countable}
 use Rattle.ledger.proofs.Records.{recordWord-bound, bytes-recount, ledger-ext}
 
+-- What an entry grants
+
+-- write or execute
+two-bits : (r : ℕ) → bits r 1 2 ≡ bits r 2 1 * 2 + bits r 1 1
+two-bits r = mod-mul (r / 2) {m = 2} {c = 2} (omega arith) (omega arith) ∙ ap (λ (x : ℕ). x % 2 * 2 + r / 2 % 2) (div-div-eq-div-mul r 2 2)
+
+some-right : (r : ℕ) → neqb (bits r 1 2) 0 ≡ (allows r write || allows r execute)
+unfolding allows
+some-right r = both-ways (neqb (bits r 1 2) 0) (eqb (bits r 1 1) 1 || eqb (bits r 2 1) 1) there back where
+  there : neqb (bits r 1 2) 0 ≡ true → (eqb (bits r 1 1) 1 || eqb (bits r 2 1) 1) ≡ true
+  there t =
+      let some = eqb-false (bits r 1 2) 0 (not-true (eqb (bits r 1 2) 0) t) in
+      ⊎-elim (λ (w : bits r 1 1 < 1). or-right (eqb (bits r 1 1) 1) (eqb (bits r 2 1) 1) (eq-eqb (bits r 2 1) 1 (⊎-elim (λ (x : bits r 2 1 < 1). absurd (some (omega (arith, two-bits r)))) (λ (x : 1 ≤ bits r 2 1). omega arith) (below-or-above (bits r 2 1) 1))))
+      (λ (w : 1 ≤ bits r 1 1). or-left (eqb (bits r 1 1) 1) (eqb (bits r 2 1) 1) (eq-eqb (bits r 1 1) 1 (omega arith)))
+      (below-or-above (bits r 1 1) 1)
+
+  back : (eqb (bits r 1 1) 1 || eqb (bits r 2 1) 1) ≡ true → neqb (bits r 1 2) 0 ≡ true
+  back t =
+      ⊎-elim (λ w. let q = eqb-true (bits r 1 1) 1 w in differ (bits r 1 2) 0 (λ z. omega (arith, two-bits r))) (λ x. let q = eqb-true (bits r 2 1) 1 x in differ (bits r 1 2) 0 (λ z. omega (arith, two-bits r)))
+      (or-cases (eqb (bits r 1 1) 1) (eqb (bits r 2 1) 1) t)
+
+-- the code's tests of it
+pub grants-none : (e : Entry) → isFault e ≡ true → false ≡ someCounter (λ c. grants c e)
+unfolding someCounter grants rights allows isLink
+grants-none e h = rw (fault-is e h) refl
+
+pub grants-link : (e : Entry) → isLink e ≡ true → true ≡ someCounter (λ c. grants c e)
+unfolding grants
+grants-link e h = sym (some-counter-hit (λ c. grants c e) linked h)
+
+pub grants-right : (e : Entry) → isLink e ≡ false → neqb (bits (rights e) 1 2) 0 ≡ someCounter (λ c. grants c e)
+unfolding someCounter grants
+grants-right e h = some-right (rights e) ∙ (rw h (sym (or-false (allows (rights e) write || allows (rights e) execute))))
+
 -- One counter
 
--- the code's tests of a counter that changes by one
-pub overruns-added : (old : ℕ) → leb counterLimit old ≡ overruns added old 1
+-- the bounds of a counter that changes by one
+beyond-overruns : (d : Change) (old : ℕ) → beyond (leastBefore d) (mostBefore d) old ≡ overruns d old 1
 unfolding overruns endsBelow endValue
-overruns-added old =
-    ⊎-elim (λ (h : old < counterLimit). lt-leb counterLimit old h ∙ sym (le-ltb counterLimit (old + 1) (omega arith)))
-    (λ (h : counterLimit ≤ old). le-leb counterLimit old h ∙ sym (lt-ltb counterLimit (old + 1) (omega arith)))
+beyond-overruns added old =
+    ⊎-elim (λ (h : old < counterLimit). rw (le-ltb old 0 (omega arith), le-ltb (counterLimit - 1) old (omega arith)) (sym (le-ltb counterLimit (old + 1) (omega arith))))
+    (λ (h : counterLimit ≤ old). rw (le-ltb old 0 (omega arith), lt-ltb (counterLimit - 1) old (omega arith)) (sym (lt-ltb counterLimit (old + 1) (omega arith))))
     (below-or-above old counterLimit)
-
-pub overruns-none : (old : ℕ) → old ≡ 0 → true ≡ overruns removed old 1
-unfolding overruns endsBelow endValue
-overruns-none old e = rw (lt-ltb old 1 (omega arith))
-
-pub overruns-removed : (old : ℕ) → old ≢ 0 → ltb counterLimit (old - 1) ≡ overruns removed old 1
-unfolding overruns endsBelow endValue
-overruns-removed old h = rw (le-ltb old 1 (omega arith))
+beyond-overruns removed old =
+    ap (λ (t : Bool). ltb old 1 || t)
+    (⊎-elim (λ (h : counterLimit + 1 < old). lt-ltb (counterLimit + 1) old h ∙ sym (lt-ltb counterLimit (old - 1) (omega arith)))
+    (λ (h : old ≤ counterLimit + 1). le-ltb (counterLimit + 1) old h ∙ sym (le-ltb counterLimit (old - 1) (omega arith)))
+    (below-or-above (counterLimit + 1) old))
 
 changeable : (d : Change) (old : ℕ) → overruns d old 1 ≡ false → Changeable d old
 unfolding overruns endsBelow endValue
@@ -98,35 +131,31 @@ entry-spreads e = record { gains = λ c q. omega arith }
 module _ (d : Change) (s : Store) {n : ℕ} {x : ℕ → Entry} {e : Entry} {p m : ℕ} (spreads : Spreads n x e p m)
     (length-is : length (s .ledger) ≡ ledgerHeadBytes + ledgerRecordBytes * blocks s) (recorded-all : GrantsRecorded (s .ledger) e p m) where
   abbrev at : Counter → ℕ → Bool
-  at c b = overruns d (recordWord (s .ledger) (counterWord c) b) 1
+  at c b = beyond (leastBefore d) (mostBefore d) (counter c s b)
 
-  abbrev region : ℕ → Bool
-  region b = someCounter (λ c. overruns d (counter c s (base s + b)) (gain n x c (base s + b)))
+  abbrev over : ℕ → Counter → Bool
+  over b c = overruns d (counter c s b) (gain n x c b)
 
-  -- "13": the entries overrun some counter of the region exactly if one does that e grants, on one of these blocks
-  overruns-blocks : someCounter (λ c. counterOverruns d (s .ledger) c e p m) ≡ someOverrun d s n x
-  unfolding counterOverruns someOverrun someBlock
+  -- "13": the entries overrun some counter of the region exactly if one that e grants is beyond the bounds of a change, on one of these blocks
+  overruns-blocks : blocksBeyond (leastBefore d) (mostBefore d) (s .ledger) e p m ≡ someOverrun d s n x
+  unfolding blocksBeyond counterBeyond someOverrun
   overruns-blocks = both-ways _ _ there back where
-    there : someCounter (λ c. counterOverruns d (s .ledger) c e p m) ≡ true → any (blocks s) region ≡ true
+    there : blocksBeyond (leastBefore d) (mostBefore d) (s .ledger) e p m ≡ true → someOverrun d s n x ≡ true
     there h =
-        let (c, t) = some-counter-found (λ c. counterOverruns d (s .ledger) c e p m) h in
-        let scan = any m (λ i. at c (recordOf (s .ledger) p + i)) in
-        let g = and-true-left (grants c e) scan t in
-        let (i, l, o) = any-found (λ i. at c (recordOf (s .ledger) p + i)) m (and-true-right (grants c e) scan t) in
-        let (lo, hi) = recorded-all c g in
-        let b = recordOf (s .ledger) p + i in
-        let one = gain-one spreads c (base s + b) g (omega arith) (omega arith) in
-        any-hit region (blocks s) b (omega arith)
-        (some-counter-hit (λ c. overruns d (counter c s (base s + b)) (gain n x c (base s + b))) c (rw (counter-at c s b, one) o))
+        let (c, t) = some-counter-found (λ c. counterBeyond (leastBefore d) (mostBefore d) (s .ledger) c e p m) h in
+        let (g, scan) = and-true (grants c e) (someBlock p m (at c)) t in
+        let (b, lo, hi, o) = some-block-found p m (at c) scan in
+        let (low, high) = recorded-all c g in
+        some-block-hit (base s) (blocks s) (λ b. someCounter (over b)) b (omega arith) (omega arith)
+        (some-counter-hit (over b) c (rw (gain-one spreads c b g lo hi) (sym (beyond-overruns d (counter c s b)) ∙ o)))
 
-    back : any (blocks s) region ≡ true → someCounter (λ c. counterOverruns d (s .ledger) c e p m) ≡ true
+    back : someOverrun d s n x ≡ true → blocksBeyond (leastBefore d) (mostBefore d) (s .ledger) e p m ≡ true
     back h =
-        let (b, l, t) = any-found region (blocks s) h in
-        let (c, o) = some-counter-found (λ c. overruns d (counter c s (base s + b)) (gain n x c (base s + b))) t in
-        let (g, lo, hi) = gain-given spreads c (base s + b) (overruns-some d (counter c s (base s + b)) (gain n x c (base s + b)) o) in
-        let is : recordOf (s .ledger) p + (base s + b - p) ≡ b = omega (arith, recorded-all c g .0) in
-        let hit : at c (recordOf (s .ledger) p + (base s + b - p)) ≡ true = rw is (rw (counter-at c s b, gain-one spreads c (base s + b) g lo hi) at o) in
-        some-counter-hit (λ c. counterOverruns d (s .ledger) c e p m) c (rw g (any-hit (λ i. at c (recordOf (s .ledger) p + i)) m (base s + b - p) (omega arith) hit))
+        let (b, _, _, t) = some-block-found (base s) (blocks s) (λ b. someCounter (over b)) h in
+        let (c, o) = some-counter-found (over b) t in
+        let (g, lo, hi) = gain-given spreads c b (overruns-some d (counter c s b) (gain n x c b) o) in
+        some-counter-hit (λ c. counterBeyond (leastBefore d) (mostBefore d) (s .ledger) c e p m) c
+        (rw g (some-block-hit p m (at c) b lo hi (beyond-overruns d (counter c s b) ∙ (rw (gain-one spreads c b g lo hi) at o))))
 
 -- Adjacent records
 
@@ -335,16 +364,19 @@ entry-inside s e t c g = let (lo, hi) = cover-within (base s) (blocks s) e (gran
 -- 13 does not apply
 pub countable : (d : Change) (s : Store) {n : ℕ} {x : ℕ → Entry} (e : Entry) (p m : ℕ) → Spreads n x e p m → misfit s (base s) ≡ false → GrantsInside (s .memory) (s .ledger) e p m
     → someOverrun d s n x ≡ false → (c : Counter) → Countable d (s .ledger) c e p m
-unfolding counterOverruns
+unfolding blocksBeyond counterBeyond
 countable d s e p m spreads t u o c g i l =
-    let none = no-counter (λ c. counterOverruns d (s .ledger) c e p m) (overruns-blocks d s spreads (fits s (base s) t .ledger-length) (recorded-inside s e p m t u) ∙ o) c in
-    let q : ℕ → Bool = λ i. overruns d (recordWord (s .ledger) (counterWord c) (recordOf (s .ledger) p + i)) 1 in
-    changeable d _ (any-none q m (and-false-right (grants c e) (any m q) none g) i l)
+    let recorded = recorded-inside s e p m t u in
+    let none = no-counter (λ c. counterBeyond (leastBefore d) (mostBefore d) (s .ledger) c e p m) (overruns-blocks d s spreads (fits s (base s) t .ledger-length) recorded ∙ o) c in
+    let q : ℕ → Bool = λ b. beyond (leastBefore d) (mostBefore d) (counter c s b) in
+    let in-bounds = no-block-at p m q (and-false-right (grants c e) (someBlock p m q) none g) (p + i) (omega arith) (omega arith) in
+    let is : p + i - base s ≡ recordOf (s .ledger) p + i = omega (arith, recorded c g .0) in
+    changeable d _ (rw is at (sym (beyond-overruns d (counter c s (p + i))) ∙ in-bounds))
 
--- The code, over plain variables: a test of one counter after the other, and a change of one after the other
+-- The code, over plain variables: a change of one counter after the other
 
 module _ (d : Change) (s : Store) (e : Entry) (p m : ℕ) (t1 : misfit s (base s) ≡ false) (t10 : GrantsInside (s .memory) (s .ledger) e p m) where
-  pub overruns-any : {t : Bool} → t ≡ someCounter (λ c. counterOverruns d (s .ledger) c e p m) → (n : ℕ) (x : ℕ → Entry) → Spreads n x e p m → t ≡ someOverrun d s n x
+  pub overruns-any : {t : Bool} → t ≡ blocksBeyond (leastBefore d) (mostBefore d) (s .ledger) e p m → (n : ℕ) (x : ℕ → Entry) → Spreads n x e p m → t ≡ someOverrun d s n x
   overruns-any h n x spreads = h ∙ overruns-blocks d s spreads (fits s (base s) t1 .ledger-length) (recorded-inside s e p m t1 t10)
 
   module _ (bytes : Bytes (s .ledger)) (can : (c : Counter) → Countable d (s .ledger) c e p m) {l1 : List ℕ} (e1 : l1 ≡ changedCounter d (s .ledger) writable e p m) where
@@ -403,11 +435,16 @@ module _ (d : Change) (s : Store) (length-is : length (s .ledger) ≡ ledgerHead
       counter-recounted d reached 1 one length-reached c b l (rw (ends-reached c b l) (bound c b l)) ∙ ends-reached c b l
       ∙ sym (counter-recounted d s (i + 1) e length-is c b l (bound c b l)))
 
--- recounting with no entry leaves the ledger
+-- recounting with entries that give nothing leaves the ledger
+pub recounted-idle : (d : Change) (s : Store) (n : ℕ) (e : ℕ → Entry) → length (s .ledger) ≡ ledgerHeadBytes + ledgerRecordBytes * blocks s → Bytes (s .ledger) → ((c : Counter) (p : ℕ) → gain n e c p ≡ 0)
+    → recounted d s n e ≡ s .ledger
+recounted-idle d s n e length-is bytes none =
+    let same : (c : Counter) (b : ℕ) → end d s n e c b ≡ recordWord (s .ledger) (counterWord c) b = λ c b. rw (none c (base s + b)) (endValue-none d _) in
+    ledger-ext (recounted d s n e) (s .ledger) (blocks s) (length-recounted d s n e ∙ length-is) length-is (bytes-recount (s .ledger) (blocks s) (end d s n e) bytes) bytes
+    (λ a h. head-recounted d s n e a h)
+    (λ b l. type-recounted d s n e b)
+    (λ c b l. counter-recounted d s n e length-is c b l (rw (same c b) (recordWord-bound (s .ledger) (counterWord c) b bytes)) ∙ same c b)
+
+-- recounting with no entry does
 pub recounted-none : (d : Change) (s : Store) (e : ℕ → Entry) → length (s .ledger) ≡ ledgerHeadBytes + ledgerRecordBytes * blocks s → Bytes (s .ledger) → recounted d s 0 e ≡ s .ledger
-recounted-none d s e length-is bytes =
-    let same : (c : Counter) (b : ℕ) → end d s 0 e c b ≡ recordWord (s .ledger) (counterWord c) b = λ c b. rw (gain-none 0 e c (base s + b) (λ i l. let z : ⊥ = omega arith in absurd z)) (endValue-none d _) in
-    ledger-ext (recounted d s 0 e) (s .ledger) (blocks s) (length-recounted d s 0 e ∙ length-is) length-is (bytes-recount (s .ledger) (blocks s) (end d s 0 e) bytes) bytes
-    (λ a h. head-recounted d s 0 e a h)
-    (λ b l. type-recounted d s 0 e b)
-    (λ c b l. counter-recounted d s 0 e length-is c b l (rw (same c b) (recordWord-bound (s .ledger) (counterWord c) b bytes)) ∙ same c b)
+recounted-none d s e length-is bytes = recounted-idle d s 0 e length-is bytes (λ c p. gain-none 0 e c p (λ i l. let z : ⊥ = omega arith in absurd z))

@@ -5,7 +5,7 @@ use mathlib.Core.Path.{_≡_}
 use Prim.Native.Nat.{ℕ, _+_, _-_, _*_, _^_, _<_, _≤_}
 use lib.ListN.{length}
 use Rattle.words.specs.Words.{word}
-use Rattle.entries.specs.Entries.{Entry, Level}
+use Rattle.entries.specs.Entries.{Entry, Level, coverFirst, coverBlocks}
 use Rattle.rules.specs.Store.{ledgerHeadBytes, ledgerRecordBytes, basePlace, lent, base, blocks, Counter, counterWord, recordWord, outside, misfit}
 use Rattle.rules.specs.Tables.{grants}
 use Rattle.rules.specs.General.{Change, added, removed, tableOutside}
@@ -37,6 +37,10 @@ recordOf ledger p = p - word ledger basePlace
 -- the ledger has a record for each of the m blocks from p on, if the entry grants something
 abbrev pub GrantsRecorded : List ℕ → Entry → ℕ → ℕ → Type 0
 GrantsRecorded ledger e p m = (c : Counter) → grants c e ≡ true → (word ledger basePlace ≤ p) × InLedger ledger (recordOf ledger p + m)
+
+-- for each block that it covers
+abbrev pub EntryRecorded : List ℕ → Entry → Type 0
+EntryRecorded ledger e = GrantsRecorded ledger e (coverFirst e) (coverBlocks e)
 
 -- one can be added to a stored value, or removed from it
 abbrev pub Changeable : Change → ℕ → Type 0

@@ -1,5 +1,4 @@
 // The counters w, x and l: what an entry adds to them, or takes away.
-use crate::layout::COUNTER_LIMIT;
 use crate::layout::EXECUTABLE;
 use crate::layout::LINKED;
 use crate::layout::WRITABLE;
@@ -12,14 +11,14 @@ use entries::rights::allows;
 ghost use mathlib.Core.Path.{_≡_};
 ghost use mathlib.Core.Bool.{false};
 ghost use Prim.Native.Nat.{ℕ, _+_, _<_};
-ghost use Rattle.words.specs.Bounded.{Small, any};
+ghost use Rattle.words.specs.Bounded.{Small};
 ghost use Rattle.entries.specs.Entries as specified;
 ghost use Rattle.entries.specs.Meaning.{meaning};
 ghost use Rattle.rules.specs.Store as store;
-ghost use Rattle.rules.specs.Store.{base as storedBase, blocks, counterWord, lent, putRecordWord, recordWord, recordWords};
+ghost use Rattle.rules.specs.Store.{base as storedBase, blocks, counterWord, lent, putRecordWord, recordWord, recordWords, someCounter};
 ghost use Rattle.rules.specs.Tables.{astray, grants};
-ghost use Rattle.rules.specs.General.{endValue, overruns, recounted, someOverrun};
-ghost use Rattle.ledger.specs.Counters.{Spreads, changed, changedCounter, counterOverruns};
+ghost use Rattle.rules.specs.General.{endValue, recounted};
+ghost use Rattle.ledger.specs.Counters.{Spreads, changed, changedCounter};
 ghost use Rattle.ledger.specs.Meaning.{changeOf, counterOf};
 ghost use Rattle.ledger.specs.Needs.{Changeable, Countable, Fits, GrantsInside, GrantsRecorded, InLedger};
 
@@ -57,14 +56,17 @@ pub fn grants(counter: Counter, e: Entry) -> bool
     }
 }
 
-// A counter would end below 0 or above its limit.
-fn overruns(change: Change, old: u32) -> bool
-    ensures { λ r. ⌜ r ≡ overruns (changeOf change) old 1 ⌝ }
+// It gives them something that is counted. A fault, as most entries of a table are, is told by one test, and so is a mapping that only reads.
+pub fn grants_some(e: Entry) -> bool
+    ensures { λ r. ⌜ r ≡ someCounter (λ c. grants c (meaning e)) ⌝ }
 {
-    match change {
-        Change::Added => COUNTER_LIMIT <= old,
-        Change::Removed => old == 0 || COUNTER_LIMIT < old - 1,
+    if entries::entry::is_fault(e) {
+        return false;
     }
+    if entries::entry::is_link(e) {
+        return true;
+    }
+    words::bits(entries::entry::rights(e), 1, 2) != 0
 }
 
 fn end_value(change: Change, old: u32) -> u32
@@ -75,19 +77,6 @@ fn end_value(change: Change, old: u32) -> u32
         Change::Added => old + 1,
         Change::Removed => old - 1,
     }
-}
-
-// The counter would overrun in some of the m records from block b on.
-fn some_overruns(change: Change, ledger: &[u8], k: usize, b: usize, m: usize) -> bool
-    requires { ⌜ (k < recordWords) × InLedger (now ledger) (b + m) ⌝ }
-    ensures { λ r. ⌜ r ≡ any m (λ i. overruns (changeOf change) (recordWord (now (ledger .entry)) k (b + i)) 1) ⌝ }
-{
-    for i in 0..m {
-        if overruns(change, record_word(ledger, k, b + i)) {
-            return true;
-        }
-    }
-    false
 }
 
 // Changes word k of block b's record by one.
@@ -109,25 +98,6 @@ fn change_words(change: Change, ledger: &mut [u8], k: usize, b: usize, m: usize)
     }
 }
 
-// One counter would overrun on some of the m blocks from p on, to which the entry grants it.
-fn counter_overruns(
-    change: Change,
-    ledger: &[u8],
-    counter: Counter,
-    e: Entry,
-    p: u32,
-    m: u32,
-) -> bool
-    requires { ⌜ GrantsRecorded (now ledger) (meaning e) p m ⌝ }
-    ensures { λ r. ⌜ r ≡ counterOverruns (changeOf change) (now (ledger .entry)) (counterOf counter) (meaning e) p m ⌝ }
-{
-    if !grants(counter, e) {
-        return false;
-    }
-    let b = record_of(ledger, p);
-    some_overruns(change, ledger, counter_word(counter), b, m as usize)
-}
-
 // Changes one counter on each of the m blocks from p on, if the entry grants it.
 fn change_counter(change: Change, ledger: &mut [u8], counter: Counter, e: Entry, p: u32, m: u32)
     requires { ⌜ GrantsRecorded (now ledger) (meaning e) p m × Countable (changeOf change) (now ledger) (counterOf counter) (meaning e) p m ⌝ }
@@ -137,28 +107,6 @@ fn change_counter(change: Change, ledger: &mut [u8], counter: Counter, e: Entry,
         let b = record_of(ledger, p);
         change_words(change, ledger, counter_word(counter), b, m as usize);
     }
-}
-
-// Some counter would overrun if what the entry grants were added to the m blocks from p on, or taken away there. Of the memory only the number of
-// blocks matters.
-pub fn blocks_overrun(
-    change: Change,
-    memory: &[u8],
-    ledger: &[u8],
-    e: Entry,
-    p: u32,
-    m: u32,
-) -> bool
-    requires { ⌜ Fits (now memory) (now ledger) × GrantsInside (now memory) (now ledger) (meaning e) p m ⌝ }
-    ensures { λ r. ⌜ ((n : ℕ) (x : ℕ → specified.Entry) → Spreads n x (meaning e) p m → r ≡ someOverrun (changeOf change) (lent (now (memory .entry)) (now (ledger .entry))) n x) ⌝ }
-{
-    if counter_overruns(change, ledger, Counter::Writable, e, p, m) {
-        return true;
-    }
-    if counter_overruns(change, ledger, Counter::Executable, e, p, m) {
-        return true;
-    }
-    counter_overruns(change, ledger, Counter::Linked, e, p, m)
 }
 
 // Adds what the entry grants to the counters of the m blocks from p on, or takes it away.

@@ -4,7 +4,7 @@ use crate::layout::record_word;
 use signature::golden::is_signed_at;
 ghost use mathlib.Core.Bool.{not};
 ghost use mathlib.Core.Path.{_≡_};
-ghost use Prim.Native.Nat.{_+_, _-_, _*_, _≤_, _<_};
+ghost use Prim.Native.Nat.{_+_, _-_, _*_, _^_, _≤_, _<_};
 ghost use lib.ListN.{length};
 ghost use Rattle.words.specs.Bounded.{above, any, neqb};
 ghost use Rattle.rules.specs.Signature.{signedBlock};
@@ -32,14 +32,22 @@ pub fn some_above_zero(ledger: &[u8], k: usize, b: usize, m: usize) -> bool
     some_differs(ledger, k, b, m, 0)
 }
 
-// Some of the m blocks from p on is unsigned, in a memory that begins at block first.
-pub fn some_unsigned(memory: &[u8], golden: &[u8], first: u32, p: u32, m: u32) -> bool
-    requires { ⌜ (first ≤ p) × (blockBytes * (p - first + m) ≤ length (now memory)) ⌝ }
-    ensures { λ r. ⌜ r ≡ someBlock p m (λ b. not (signedBlock (now (golden .entry)) first (now (memory .entry)) b)) ⌝ }
+// Block p is signed, in a memory that begins at block first.
+pub fn is_signed_block(memory: &[u8], golden: &[u8], first: u32, p: u32) -> bool
+    requires { ⌜ (first ≤ p) × (blockBytes * (p - first + 1) ≤ length (now memory)) ⌝ }
+    ensures { λ r. ⌜ r ≡ signedBlock (now (golden .entry)) first (now (memory .entry)) p ⌝ }
 {
     let b = (p - first) as usize;
-    for i in 0..m as usize {
-        if !is_signed_at(memory, BLOCK_BYTES * (b + i), golden) {
+    is_signed_at(memory, BLOCK_BYTES * b, golden)
+}
+
+// Some of the m blocks from p on is unsigned.
+pub fn some_unsigned(memory: &[u8], golden: &[u8], first: u32, p: u32, m: u32) -> bool
+    requires { ⌜ (first ≤ p) × (p + m < 2 ^ 32) × (blockBytes * (p - first + m) ≤ length (now memory)) ⌝ }
+    ensures { λ r. ⌜ r ≡ someBlock p m (λ b. not (signedBlock (now (golden .entry)) first (now (memory .entry)) b)) ⌝ }
+{
+    for i in 0..m {
+        if !is_signed_block(memory, golden, first, p + i) {
             return true;
         }
     }

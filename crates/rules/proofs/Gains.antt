@@ -66,7 +66,7 @@ module _ (m : ℕ) (e : ℕ → Entry) (c : Counter) (p : ℕ) where
   gain-more = rw (add-one m) refl
 
   -- some entry gives exactly if there is a gain
-  gain-any : above (gain m e c p) 0 ≡ any m (λ i. gives c (e i) p)
+  pub gain-any : above (gain m e c p) 0 ≡ any m (λ i. gives c (e i) p)
   unfolding gain
   gain-any = count-any (λ i. gives c (e i) p) m
 

@@ -1,5 +1,5 @@
 -- Entries are counted one by one: a counter overruns on the way or at the end exactly if it overruns at once, and what was counted can be taken back.
-use mathlib.Core.Bool.{Bool, true, false, not, _&&_}
+use mathlib.Core.Bool.{Bool, true, false, not, _&&_, and-false, false≢true}
 use mathlib.Core.List.{List}
 use mathlib.Core.Logic.{⊎-elim}
 use mathlib.Core.Path.{_≡_, refl, sym, _∙_, ap}
@@ -8,25 +8,26 @@ use native.Mathlib.Nat.{add-zero, add-suc}
 use native.Mathlib.Omega.{arith}
 use lib.ListN.{length}
 use lib.Dec.{leb}
-use borrow.Author.Tests.{lt-ltb, le-ltb, le-leb, lt-leb, ltb-true, ltb-false, leb-true}
+use borrow.Author.Tests.{not-true, not-false, lt-ltb, le-ltb, le-leb, lt-leb, ltb-true, ltb-false, leb-true}
 use Rattle.words.specs.Bounded.{above, any, sum, num}
-use Rattle.words.proofs.Bounded.{both-ways, or-right, and-both, any-hit, any-found, or-cases, or-false-left, or-false-right, and-true, and-true-left, and-false-right, below-or-above}
+use Rattle.words.proofs.Bounded.{both-ways, false-unless, any-avoids, or-right, and-both, any-hit, any-found, or-cases, or-false-left, or-false-right, and-true, and-true-left, and-false-right, below-or-above}
 use Rattle.words.proofs.Words.{Bytes}
 use Rattle.entries.specs.Entries.{Entry, Level, coverFirst, coverBlocks}
-use Rattle.rules.specs.Store.{ledgerHeadBytes, ledgerRecordBytes, counterLimit, basePlace, Store, lent, blocks, base, recordWord, Counter, counterWord, someCounter, counter, someBlock, someRegionBlock, misfit}
+use Rattle.rules.specs.Store.{ledgerHeadBytes, ledgerRecordBytes, counterLimit, basePlace, Store, lent, blocks, base, recordWord, Counter, writable, executable, linked, counterWord, someCounter, counter, someBlock, someRegionBlock, misfit}
 use Rattle.rules.specs.Tables.{grants, gives, gain, astray}
 use Rattle.rules.specs.General.{Change, added, removed, endValue, endsBelow, overruns, someOverrun, recounted}
 use Rattle.rules.proofs.Gains.{gives-within, gives-at, grants-place, gain-more, gain-hit, gain-none, gain-found}
 use Rattle.rules.proofs.State.{fits, some-block-hit, some-block-found, no-block-at, no-counter, some-counter-found, some-counter-hit}
 use Rattle.rules.proofs.Walk.{cover-within}
 use Rattle.rules.proofs.Changes.{counter-at, end, length-recounted, head-recounted, type-recounted, counter-recounted}
+use Rattle.ledger.specs.Counters.{beyond, counterBeyond, blocksBeyond, entryBeyond, leastBefore}
 use Rattle.ledger.specs.Needs.{Fits, Changeable, Countable}
 use Rattle.ledger.proofs.Records.{recordWord-bound, bytes-recount, ledger-ext}
-use Rattle.ledger.proofs.Counting.{recounted-more, recounted-none}
-use Rattle.validation.specs.Needs.{AllPlaced, EntryRecorded, TablePlaced}
-use Rattle.validation.specs.Tests.{entryFrom, beyond, counterBeyond, entryBeyond}
-use Rattle.validation.proofs.Covers.{given-inside, entry-recorded}
-use Rattle.tables.specs.Counting.{ChangedUnless, complete, leastOf, mostOf, Room, Roomy, opposite, Counted}
+use Rattle.ledger.proofs.Counting.{recounted-more, recounted-idle, recounted-none}
+use Rattle.validation.specs.Needs.{InRegion, Placed, AllPlaced, TablePlaced}
+use Rattle.validation.specs.Tests.{entryFrom}
+use Rattle.validation.proofs.Covers.{given-inside}
+use Rattle.tables.specs.Counting.{ChangedUnless, complete, endsAbove, mostOf, Room, Roomy, opposite, Counted}
 use Rattle.tables.specs.Needs.{Storable, AllStorable}
 
 -- One counter, changed by k from old
@@ -36,12 +37,12 @@ unfolding endValue
 storable-end added old k small r = r
 storable-end removed old k small r = omega arith
 
-room-more : (d : Change) (old k : ℕ) → Room d old k → beyond (leastOf d) (mostOf d) (endValue d old k) ≡ false → Room d old (k + 1)
+room-more : (d : Change) (old k : ℕ) → Room d old k → beyond (leastBefore d) (mostOf d) (endValue d old k) ≡ false → Room d old (k + 1)
 unfolding endValue
 room-more added old k r t = λ _. omega (arith, ltb-false (counterLimit - 1) (old + k) (or-false-right (above 0 (old + k)) (above (old + k) (counterLimit - 1)) t))
 room-more removed old k r t = omega (arith, ltb-false (old - k) 1 (or-false-left (above 1 (old - k)) (above (old - k) (2 ^ 32 - 1)) t))
 
-room-stuck : (d : Change) (old k : ℕ) → old < 2 ^ 32 → Room d old k → beyond (leastOf d) (mostOf d) (endValue d old k) ≡ true → (j : ℕ) → k < j → overruns d old j ≡ true
+room-stuck : (d : Change) (old k : ℕ) → old < 2 ^ 32 → Room d old k → beyond (leastBefore d) (mostOf d) (endValue d old k) ≡ true → (j : ℕ) → k < j → overruns d old j ≡ true
 unfolding endValue endsBelow overruns
 room-stuck added old k small r t j l =
     ⊎-elim (λ h. let z = ltb-true (old + k) 0 h in let f : ⊥ = omega arith in absurd f)
@@ -61,6 +62,12 @@ room-overruns removed old k r = rw (le-ltb old k r) refl
 room-storable : (d : Change) (old k : ℕ) → old < 2 ^ 32 → Room d old k → Storable d old k
 room-storable added old k small r = ⊎-elim (λ (h : 0 < k). omega (arith, r h)) (λ (h : k ≤ 0). omega arith) (below-or-above 0 k)
 room-storable removed old k small r = r
+
+-- a counter that is added to ends within the limit
+room-within : (old k : ℕ) → Room added old k → overruns added old k ≡ false
+unfolding endValue endsBelow overruns
+room-within old k r =
+    ⊎-elim (λ (h : 0 < k). rw (le-ltb counterLimit (old + k) (r h)) (and-false (above k 0))) (λ (h : k ≤ 0). rw (le-ltb 0 k h) refl) (below-or-above 0 k)
 
 -- taken back
 storable-back : (d : Change) (old k : ℕ) → old < 2 ^ 32 → Storable d old k → Storable (opposite d) (endValue d old k) k × (endValue (opposite d) (endValue d old k) k ≡ old)
@@ -136,14 +143,14 @@ module _ (d : Change) (s : Store) (e : ℕ → Entry) (length-is : length (s .le
   counter-counted i st c b l = let k : base s + b - base (counted i) ≡ b = omega (arith, base-counted i) in rw k (record-counted i st c b l)
 
   -- an entry that can be changed leaves room
-  roomy-more : (i : ℕ) → Roomy d s i e → entryBeyond (leastOf d) (mostOf d) (recounted d s i e) (e i) ≡ false → Roomy d s (i + 1) e
-  unfolding entryBeyond counterBeyond
+  roomy-more : (i : ℕ) → Roomy d s i e → entryBeyond (leastBefore d) (mostOf d) (recounted d s i e) (e i) ≡ false → Roomy d s (i + 1) e
+  unfolding blocksBeyond counterBeyond
   roomy-more i r t c b l = go (gives c (e i) (base s + b)) refl where
     go : (g : Bool) → gives c (e i) (base s + b) ≡ g → Room d (recordWord (s .ledger) (counterWord c) b) (gain (i + 1) e c (base s + b))
     go false g = rw (gain-spared e c (base s + b) i g) (r c b l)
     go true g =
-        let q : ℕ → Bool = λ p. beyond (leastOf d) (mostOf d) (counter c (counted i) p) in
-        let none = own-none s q c (e i) b (no-counter (λ c. counterBeyond (leastOf d) (mostOf d) (recounted d s i e) c (e i)) t c) g in
+        let q : ℕ → Bool = λ p. beyond (leastBefore d) (mostOf d) (counter c (counted i) p) in
+        let none = own-none s q c (e i) b (no-counter (λ c. counterBeyond (leastBefore d) (mostOf d) (recounted d s i e) c (e i) (coverFirst (e i)) (coverBlocks (e i))) t c) g in
         rw (gain-given e c (base s + b) i g) (room-more d _ (gain i e c (base s + b)) (r c b l) (rw (counter-counted i (roomy-storable i r) c b l) at none))
 
   module _ (m : ℕ) (inside : (i : ℕ) → i < m → astray (base s) (blocks s) (e i) ≡ false) where
@@ -157,9 +164,9 @@ module _ (d : Change) (s : Store) (e : ℕ → Entry) (length-is : length (s .le
     -- what an entry beyond its bounds says, when i entries are counted
     beyond-found : (i k least most : ℕ) → k < m → AllStorable d s i e → entryBeyond least most (recounted d s i e) (e k) ≡ true
         → (c : Counter) × (b : ℕ) × (b < blocks s) × (gives c (e k) (base s + b) ≡ true) × (beyond least most (end d s i e c b) ≡ true)
-    unfolding entryBeyond counterBeyond
+    unfolding blocksBeyond counterBeyond
     beyond-found i k least most l st t =
-        let (c, h) = some-counter-found (λ c. counterBeyond least most (recounted d s i e) c (e k)) t in
+        let (c, h) = some-counter-found (λ c. counterBeyond least most (recounted d s i e) c (e k) (coverFirst (e k)) (coverBlocks (e k))) t in
         let q : ℕ → Bool = λ p. beyond least most (counter c (counted i) p) in
         let (grant, some) = and-true (grants c (e k)) (someBlock (coverFirst (e k)) (coverBlocks (e k)) q) h in
         let (b, n, g, u) = own-found s q c (e k) (inside k l) grant some in
@@ -167,15 +174,15 @@ module _ (d : Change) (s : Store) (e : ℕ → Entry) (length-is : length (s .le
 
     beyond-hit : (i k least most : ℕ) → AllStorable d s i e → (c : Counter) (b : ℕ) → b < blocks s → gives c (e k) (base s + b) ≡ true → beyond least most (end d s i e c b) ≡ true
         → entryBeyond least most (recounted d s i e) (e k) ≡ true
-    unfolding entryBeyond counterBeyond
+    unfolding blocksBeyond counterBeyond
     beyond-hit i k least most st c b n g u =
         let q : ℕ → Bool = λ p. beyond least most (counter c (counted i) p) in
-        some-counter-hit (λ c. counterBeyond least most (recounted d s i e) c (e k)) c (own-hit s q c (e k) b g (rw (counter-counted i st c b n) u))
+        some-counter-hit (λ c. counterBeyond least most (recounted d s i e) c (e k) (coverFirst (e k)) (coverBlocks (e k))) c (own-hit s q c (e k) b g (rw (counter-counted i st c b n) u))
 
     -- "13": an entry that can't be changed
-    stuck-overruns : (i : ℕ) → i < m → Roomy d s i e → entryBeyond (leastOf d) (mostOf d) (recounted d s i e) (e i) ≡ true → someOverrun d s m e ≡ true
+    stuck-overruns : (i : ℕ) → i < m → Roomy d s i e → entryBeyond (leastBefore d) (mostOf d) (recounted d s i e) (e i) ≡ true → someOverrun d s m e ≡ true
     stuck-overruns i l r t =
-        let (c, b, n, g, u) = beyond-found i i (leastOf d) (mostOf d) l (roomy-storable i r) t in
+        let (c, b, n, g, u) = beyond-found i i (leastBefore d) (mostOf d) l (roomy-storable i r) t in
         let more = gain-given e c (base s + b) i g in
         let rest : i + 1 + (m - (i + 1)) ≡ m = omega arith in
         let grows = rw rest at (gain-grows e c (base s + b) (m - (i + 1)) (i + 1)) in
@@ -216,6 +223,63 @@ module _ (d : Change) (s : Store) (e : ℕ → Entry) (length-is : length (s .le
       (λ c b l.
       let is : end (opposite d) (counted i) i e c b ≡ recordWord (s .ledger) (counterWord c) b = rw (base-counted i, record-counted i st c b l) (storable-back d _ (gain i e c (base s + b)) (small c b) (st c b l) .1) in
       counter-recounted (opposite d) (counted i) i e (length-recounted d s i e ∙ length-is) c b l (rw is (small c b)) ∙ is)
+
+-- at the end only the counters that were taken from are left to judge
+within-limit : (s : Store) (m : ℕ) (e : ℕ → Entry) → Roomy added s m e → someOverrun added s m e ≡ false
+unfolding someOverrun someBlock
+within-limit s m e r =
+    any-avoids (λ b. someCounter (over b)) (blocks s)
+    (λ b l. false-unless (someCounter (over b)) (λ t. let (c, o) = some-counter-found (over b) t in false≢true (sym (room-within _ (gain m e c (base s + b)) (r c b l)) ∙ (rw (counter-at c s b) at o)))) where
+      over : ℕ → Counter → Bool
+      over b c = overruns added (counter c s (base s + b)) (gain m e c (base s + b))
+
+ends-above : (d : Change) (s : Store) (e : ℕ → Entry) → length (s .ledger) ≡ ledgerHeadBytes + ledgerRecordBytes * blocks s → Bytes (s .ledger) → (m : ℕ)
+    → ((i : ℕ) → i < m → astray (base s) (blocks s) (e i) ≡ false) → Roomy d s m e → someOverrun d s m e ≡ endsAbove d (recounted d s m e) m e
+ends-above added s e length-is bytes m inside r = within-limit s m e r
+ends-above removed s e length-is bytes m inside r = end-overruns removed s e length-is bytes m inside r
+
+-- What was changed, and what was not
+
+unchanged : {o : Bool} {changed old : List ℕ} {r : Bool} {led : List ℕ} → ChangedUnless o changed old r led → r ≡ false → (o ≡ true) × (led ≡ old)
+unchanged {o} u f = (not-false o (sym (u .tells) ∙ f), rw f at (u .leaves))
+
+did-change : {o : Bool} {changed old : List ℕ} {r : Bool} {led : List ℕ} → ChangedUnless o changed old r led → r ≡ true → (o ≡ false) × (led ≡ changed)
+did-change {o} u t = (not-true o (sym (u .tells) ∙ t), rw t at (u .leaves))
+
+pub left-alone : {o : Bool} {changed old : List ℕ} → o ≡ true → ChangedUnless o changed old false old
+left-alone t = record { tells = rw t refl; leaves = refl }
+
+pub was-changed : {o : Bool} {changed old led : List ℕ} → o ≡ false → led ≡ changed → ChangedUnless o changed old true led
+was-changed f q = record { tells = rw f refl; leaves = q }
+
+-- One entry
+
+in-bounds-changeable : (d : Change) (old : ℕ) → beyond (leastBefore d) (mostOf d) old ≡ false → Changeable d old
+in-bounds-changeable added old h = let most = ltb-false (counterLimit - 1) old (or-false-right (above 0 old) (above old (counterLimit - 1)) h) in omega arith
+in-bounds-changeable removed old h = let least = ltb-false old 1 (or-false-left (above 1 old) (above old (2 ^ 32 - 1)) h) in omega arith
+
+module _ (d : Change) (memory ledger : List ℕ) (e : Entry) where
+  -- an entry that grants nothing is counted by leaving the ledger
+  pub entry-idle : Fits memory ledger → Bytes ledger → someCounter (λ c. grants c e) ≡ false
+      → ChangedUnless (entryBeyond (leastBefore d) (mostOf d) ledger e) (recounted d (lent memory ledger) 1 (λ k. e)) ledger true ledger
+  unfolding blocksBeyond counterBeyond someCounter gives
+  entry-idle fit bytes idle =
+      let none : (c : Counter) → grants c e ≡ false = no-counter (λ c. grants c e) idle in
+      let s = lent memory ledger in
+      was-changed (rw (none writable, none executable, none linked) refl)
+      (sym (recounted-idle d s 1 (λ k. e) (fits s (base s) fit .ledger-length) bytes (λ c p. gain-none 1 (λ k. e) c p (λ i l. rw (none c) refl))))
+
+  -- one whose counters are in bounds can be changed
+  pub entry-countable : InRegion memory ledger e → entryBeyond (leastBefore d) (mostOf d) ledger e ≡ false → (c : Counter) → Countable d ledger c e (coverFirst e) (coverBlocks e)
+  unfolding blocksBeyond counterBeyond
+  entry-countable inside h c g i l =
+      let s = lent memory ledger in
+      let q : ℕ → Bool = λ b. beyond (leastBefore d) (mostOf d) (counter c s b) in
+      let (low, high) = cover-within (base s) (blocks s) e (grants-place c e g) inside in
+      let none = no-counter (λ c. counterBeyond (leastBefore d) (mostOf d) ledger c e (coverFirst e) (coverBlocks e)) h c in
+      let within-bounds = no-block-at (coverFirst e) (coverBlocks e) q (and-false-right (grants c e) (someBlock (coverFirst e) (coverBlocks e) q) none g) (coverFirst e + i) (omega arith) (omega arith) in
+      let is : coverFirst e + i - base s ≡ coverFirst e - base s + i = omega arith in
+      in-bounds-changeable d _ (rw is at within-bounds)
 
 -- Fewer entries than can be counted, or one less
 
@@ -279,10 +343,10 @@ module _ (d : Change) {v : Level} {memory ledger : List ℕ} {j m : ℕ} (pre : 
       next-placed : astray (base (lent memory led)) (blocks store) e ≡ false
       next-placed = rw is (placed-reached i l)
 
-      pub next-recorded : EntryRecorded led e
-      next-recorded = entry-recorded (lent memory led) e fits-reached next-placed
+      pub next-ready : Placed memory led e
+      next-ready = (fits-reached, next-placed)
 
-      pub next-roomy : Roomy d (lent memory ledger) i (entryFrom v memory j) → entryBeyond (leastOf d) (mostOf d) led e ≡ false → Roomy d (lent memory ledger) (i + 1) (entryFrom v memory j)
+      next-roomy : Roomy d (lent memory ledger) i (entryFrom v memory j) → entryBeyond (leastBefore d) (mostOf d) led e ≡ false → Roomy d (lent memory ledger) (i + 1) (entryFrom v memory j)
       next-roomy r t = roomy-more d store entry length-is bytes i r (rw (reached, is) at t)
 
       module _ (st : AllStorable d (lent memory ledger) (i + 1) (entryFrom v memory j)) where
@@ -296,11 +360,25 @@ module _ (d : Change) {v : Level} {memory ledger : List ℕ} {j m : ℕ} (pre : 
               rw (head-recounted d store i entry basePlace (omega arith), record-counted d store entry length-is bytes i (fewer-storable i (i + 1) (omega arith) st) c b (omega arith))
               (changeable-storable d _ (gain i entry c (base store + b)) (rw (gain-given entry c (base store + b) i given) at (st c b (omega arith))))
 
-        pub next-ready : Fits memory led × ((astray (base (lent memory led)) (blocks (lent memory led)) e ≡ false) × ((c : Counter) → Countable d led c e (coverFirst e) (coverBlocks e)))
-        next-ready = (fits-reached, (next-placed, next-countable))
+        pub next-can : Fits memory led × (InRegion memory led e × ((c : Counter) → Countable d led c e (coverFirst e) (coverBlocks e)))
+        next-can = (fits-reached, (next-placed, next-countable))
 
         pub next-counted : {led′ : List ℕ} → led′ ≡ recounted d (lent memory led) 1 (λ k. e) → led′ ≡ recounted d (lent memory ledger) (i + 1) (entryFrom v memory j)
         next-counted q = rw (reached, is) at q ∙ recounted-more d store length-is bytes entry i (λ c b n. storable-end d _ (gain (i + 1) entry c (base store + b)) (recordWord-bound ledger (counterWord c) b bytes) (st c b n))
+
+      -- the turn of the loop that counts up to an entry that can't be
+      module _ (r : Roomy d (lent memory ledger) i (entryFrom v memory j)) {did : Bool} {led′ : List ℕ}
+          (one : ChangedUnless (entryBeyond (leastBefore d) (mostOf d) led e) (recounted d (lent memory led) 1 (λ k. e)) led did led′) where
+        pub count-goes-on : did ≡ true → (led′ ≡ recounted d (lent memory ledger) (i + 1) (entryFrom v memory j)) × Roomy d (lent memory ledger) (i + 1) (entryFrom v memory j)
+        count-goes-on t =
+            let (inside, q) = did-change one t in
+            let more = next-roomy r inside in
+            (next-counted (all-storable (i + 1) more) q, more)
+
+        pub count-stops : did ≡ false → Counted d (lent memory ledger) m (entryFrom v memory j) i led′
+        count-stops f =
+            let (beyond-one, q) = unchanged one f in
+            record { at-most = omega arith; ledger-is = q ∙ reached; roomy = r; stuck = λ _. rw (q, ← is) beyond-one }
 
   -- What counting leaves
 
@@ -314,23 +392,23 @@ module _ (d : Change) {v : Level} {memory ledger : List ℕ} {j m : ℕ} (pre : 
     stuck-overrun : r < m → someOverrun d store m entry ≡ true
     stuck-overrun l = stuck-overruns d store entry length-is bytes m (pre .placed) r l (done .roomy) (rw (done .ledger-is) at (done .stuck l))
 
-    end-overrun : r ≡ m → someOverrun d store m entry ≡ any m (λ i. entryBeyond 0 counterLimit led (entry i))
-    end-overrun q = rw (done .ledger-is, q) (end-overruns d store entry length-is bytes m (pre .placed) (rw q at (done .roomy)))
+    end-overrun : r ≡ m → someOverrun d store m entry ≡ endsAbove d led m entry
+    end-overrun q = rw (done .ledger-is, q) (ends-above d store entry length-is bytes m (pre .placed) (rw q at (done .roomy)))
 
-    overrun-is : not (someOverrun d store m entry) ≡ complete led m entry r
+    overrun-is : not (someOverrun d store m entry) ≡ complete d led m entry r
     overrun-is =
         let most = done .at-most in
         ⊎-elim (λ (h : r < m). rw (stuck-overrun h, lt-leb m r h) refl) (λ (h : m ≤ r). rw (end-overrun (omega arith), le-leb m r h) refl) (below-or-above r m)
 
     -- all are counted, or what was counted is taken back
-    pub counted-all : complete led m (entryFrom v memory j) r ≡ true
+    pub counted-all : complete d led m (entryFrom v memory j) r ≡ true
         → ChangedUnless (someOverrun d (lent memory ledger) m (entryFrom v memory j)) (recounted d (lent memory ledger) m (entryFrom v memory j)) ledger true led
     counted-all t =
         let most = done .at-most in
-        let least = leb-true m r (and-true-left (leb m r) (not (any m (λ i. entryBeyond 0 counterLimit led (entry i)))) t) in
+        let least = leb-true m r (and-true-left (leb m r) (not (endsAbove d led m entry)) t) in
         let all : r ≡ m = omega arith in
         record { tells = sym (overrun-is ∙ t); leaves = rw all at (done .ledger-is) }
 
-    pub counted-undone : {led′ : List ℕ} → complete led m (entryFrom v memory j) r ≡ false → led′ ≡ recounted (opposite d) (lent memory led) r (entryFrom v memory j)
+    pub counted-undone : {led′ : List ℕ} → complete d led m (entryFrom v memory j) r ≡ false → led′ ≡ recounted (opposite d) (lent memory led) r (entryFrom v memory j)
         → ChangedUnless (someOverrun d (lent memory ledger) m (entryFrom v memory j)) (recounted d (lent memory ledger) m (entryFrom v memory j)) ledger false led′
     counted-undone t q = record { tells = sym (overrun-is ∙ t); leaves = rw (done .ledger-is) at q ∙ taken-back d store entry length-is bytes r storable }

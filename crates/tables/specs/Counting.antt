@@ -1,5 +1,5 @@
 -- Refusal 13, looked for while the entries are counted one by one.
-use mathlib.Core.Bool.{Bool, true, cond, not, _&&_}
+use mathlib.Core.Bool.{Bool, true, false, cond, not, _&&_}
 use mathlib.Core.List.{List}
 use mathlib.Core.Path.{_≡_}
 use Prim.Native.Nat.{ℕ, _+_, _-_, _^_, _<_, _≤_}
@@ -9,13 +9,9 @@ use Rattle.entries.specs.Entries.{Entry}
 use Rattle.rules.specs.Store.{counterLimit, Store, blocks, base, recordWord, Counter, counterWord}
 use Rattle.rules.specs.Tables.{gain}
 use Rattle.rules.specs.General.{Change, added, removed, recounted}
-use Rattle.validation.specs.Tests.{entryBeyond}
+use Rattle.ledger.specs.Counters.{entryBeyond, leastBefore}
 
--- the counters that can be changed by one: a counter that is added to stays within the limit
-abbrev pub leastOf : Change → ℕ
-leastOf added = 0
-leastOf removed = 1
-
+-- the counters that can be changed by one on the way: a counter that is added to stays within the limit
 abbrev pub mostOf : Change → ℕ
 mostOf added = counterLimit - 1
 mostOf removed = 2 ^ 32 - 1
@@ -38,11 +34,16 @@ pub record Counted (d : Change) (s : Store) (m : ℕ) (e : ℕ → Entry) (r : �
   pub at-most : r ≤ m
   pub ledger-is : ledger ≡ recounted d s r e
   pub roomy : Roomy d s r e
-  pub stuck : r < m → entryBeyond (leastOf d) (mostOf d) ledger (e r) ≡ true
+  pub stuck : r < m → entryBeyond (leastBefore d) (mostOf d) ledger (e r) ≡ true
 
--- all m entries are counted, and no counter by which they count is above the limit
-abbrev pub complete : List ℕ → ℕ → (ℕ → Entry) → ℕ → Bool
-complete ledger m e r = leb m r && not (any m (λ i. entryBeyond 0 counterLimit ledger (e i)))
+-- a counter by which the m entries count is above the limit when all are counted: one that was added to is not
+abbrev pub endsAbove : Change → List ℕ → ℕ → (ℕ → Entry) → Bool
+endsAbove added ledger m e = false
+endsAbove removed ledger m e = any m (λ i. entryBeyond 0 counterLimit ledger (e i))
+
+-- all m entries are counted, and no counter ends above the limit
+abbrev pub complete : Change → List ℕ → ℕ → (ℕ → Entry) → ℕ → Bool
+complete d ledger m e r = leb m r && not (endsAbove d ledger m e)
 
 -- the ledger is changed, and r is true, unless a counter would overrun
 pub record ChangedUnless (overrun : Bool) (changed old : List ℕ) (r : Bool) (ledger : List ℕ) : Type 0 where

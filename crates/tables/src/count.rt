@@ -5,38 +5,34 @@ use crate::own::put_types;
 use entries::decode::entry_at;
 use entries::entry::Entry;
 use entries::entry::Level;
+use ledger::bounds::entry_beyond;
+use ledger::bounds::least_before;
 use ledger::counters::Change;
 use ledger::counters::change_entry;
+use ledger::counters::grants_some;
 use ledger::layout::COUNTER_LIMIT;
 use ledger::layout::TYPE_D;
 use ledger::layout::record_of;
 use ledger::table::table_blocks;
 use ledger::table::table_entries;
 use ledger::table::table_type;
-use validation::scan::some_above_limit;
-use validation::target::entry_beyond;
 ghost use mathlib.Core.Path.{_≡_};
+ghost use Rattle.words.specs.Bounded.{any};
 ghost use Rattle.entries.specs.Meaning.{levelOf, meaning};
 ghost use Rattle.rules.specs.General.{recounted, retyped, someOverrun, typeAfter};
-ghost use Rattle.rules.specs.Store.{lent};
+ghost use Rattle.rules.specs.Store.{counterLimit, lent};
 ghost use Rattle.rules.specs.Tables.{tableEntries, tableEntry};
+ghost use Rattle.ledger.specs.Counters.{entryBeyond, leastBefore};
 ghost use Rattle.ledger.specs.Meaning.{changeOf};
-ghost use Rattle.validation.specs.Needs.{EntryRecorded, TablePlaced};
-ghost use Rattle.validation.specs.Tests.{entryBeyond, entryFrom};
-ghost use Rattle.tables.specs.Counting.{ChangedUnless, Counted, complete, leastOf, mostOf, opposite};
+ghost use Rattle.ledger.specs.Needs.{EntryRecorded};
+ghost use Rattle.validation.specs.Needs.{Placed, TablePlaced};
+ghost use Rattle.validation.specs.Tests.{entryFrom};
+ghost use Rattle.tables.specs.Counting.{ChangedUnless, Counted, complete, endsAbove, mostOf, opposite};
 ghost use Rattle.tables.specs.Needs.{AllStorable, TableReady};
 
 const LARGEST_WORD: u32 = 0xFFFF_FFFF;
 
-fn least_of(change: Change) -> u32
-    ensures { λ r. ⌜ r ≡ leastOf (changeOf change) ⌝ }
-{
-    match change {
-        Change::Added => 0,
-        Change::Removed => 1,
-    }
-}
-
+// The greatest value of a counter that can change by one on the way: one that is taken from is judged at the end.
 fn most_of(change: Change) -> u32
     ensures { λ r. ⌜ r ≡ mostOf (changeOf change) ⌝ }
 {
@@ -58,9 +54,24 @@ fn opposite(change: Change) -> Change
 // Some counter can't be changed by the entry.
 fn is_stuck(change: Change, ledger: &[u8], e: Entry) -> bool
     requires { ⌜ EntryRecorded (now ledger) (meaning e) ⌝ }
-    ensures { λ r. ⌜ r ≡ entryBeyond (leastOf (changeOf change)) (mostOf (changeOf change)) (now (ledger .entry)) (meaning e) ⌝ }
+    ensures { λ r. ⌜ r ≡ entryBeyond (leastBefore (changeOf change)) (mostOf (changeOf change)) (now (ledger .entry)) (meaning e) ⌝ }
 {
-    entry_beyond(ledger, e, least_of(change), most_of(change))
+    entry_beyond(ledger, e, least_before(change), most_of(change))
+}
+
+// Counts an entry, or leaves the ledger if a counter can't be changed; true if it is counted. Most entries of a table may grant nothing.
+fn count_entry(change: Change, memory: &[u8], ledger: &mut [u8], e: Entry) -> bool
+    requires { ⌜ Placed (now memory) (now ledger) (meaning e) ⌝ }
+    ensures { λ r. ⌜ ChangedUnless (entryBeyond (leastBefore (changeOf change)) (mostOf (changeOf change)) (now (ledger .entry)) (meaning e)) (recounted (changeOf change) (lent (now (memory .entry)) (now (ledger .entry))) 1 (λ k. meaning e)) (now (ledger .entry)) r (now (ledger .exit)) ⌝ }
+{
+    if !grants_some(e) {
+        return true;
+    }
+    if is_stuck(change, ledger, e) {
+        return false;
+    }
+    change_entry(change, memory, ledger, e);
+    true
 }
 
 // Counts entries up to one that can't be, and tells how many.
@@ -76,11 +87,9 @@ fn count_until_stuck(
     ensures { λ r. ⌜ Counted (changeOf change) (lent (now (memory .entry)) (now (ledger .entry))) m (entryFrom (levelOf level) (now (memory .entry)) j) r (now (ledger .exit)) ⌝ }
 {
     for i in 0..m {
-        let e = entry_at(level, memory, j + i);
-        if is_stuck(change, ledger, e) {
+        if !count_entry(change, memory, ledger, entry_at(level, memory, j + i)) {
             return i;
         }
-        change_entry(change, memory, ledger, e);
     }
     m
 }
@@ -96,15 +105,54 @@ fn count_all(change: Change, level: Level, memory: &[u8], ledger: &mut [u8], j: 
     }
 }
 
-// All m entries are counted, and no counter by which they count is above the limit.
-fn is_complete(level: Level, memory: &[u8], ledger: &[u8], j: usize, m: usize, done: usize) -> bool
+// Some counter by which the m entries count is above the limit.
+fn some_above_limit(level: Level, memory: &[u8], ledger: &[u8], j: usize, m: usize) -> bool
     requires { ⌜ TablePlaced (levelOf level) (now memory) (now ledger) j m ⌝ }
-    ensures { λ r. ⌜ r ≡ complete (now (ledger .entry)) m (entryFrom (levelOf level) (now (memory .entry)) j) done ⌝ }
+    ensures { λ r. ⌜ r ≡ any m (λ i. entryBeyond 0 counterLimit (now (ledger .entry)) (entryFrom (levelOf level) (now (memory .entry)) j i)) ⌝ }
+{
+    for i in 0..m {
+        if entry_beyond(ledger, entry_at(level, memory, j + i), 0, COUNTER_LIMIT) {
+            return true;
+        }
+    }
+    false
+}
+
+// The same when all are counted: a counter that was added to is within the limit, or an entry were stuck.
+fn ends_above(
+    change: Change,
+    level: Level,
+    memory: &[u8],
+    ledger: &[u8],
+    j: usize,
+    m: usize,
+) -> bool
+    requires { ⌜ TablePlaced (levelOf level) (now memory) (now ledger) j m ⌝ }
+    ensures { λ r. ⌜ r ≡ endsAbove (changeOf change) (now (ledger .entry)) m (entryFrom (levelOf level) (now (memory .entry)) j) ⌝ }
+{
+    match change {
+        Change::Added => false,
+        Change::Removed => some_above_limit(level, memory, ledger, j, m),
+    }
+}
+
+// All m entries are counted, and no counter ends above the limit.
+fn is_complete(
+    change: Change,
+    level: Level,
+    memory: &[u8],
+    ledger: &[u8],
+    j: usize,
+    m: usize,
+    done: usize,
+) -> bool
+    requires { ⌜ TablePlaced (levelOf level) (now memory) (now ledger) j m ⌝ }
+    ensures { λ r. ⌜ r ≡ complete (changeOf change) (now (ledger .entry)) m (entryFrom (levelOf level) (now (memory .entry)) j) done ⌝ }
 {
     if done < m {
         return false;
     }
-    !some_above_limit(level, memory, ledger, j, m)
+    !ends_above(change, level, memory, ledger, j, m)
 }
 
 // Counts the table's m entries, or leaves the ledger if a counter would overrun; true if they are counted.
@@ -120,7 +168,7 @@ fn count_table(
     ensures { λ r. ⌜ ChangedUnless (someOverrun (changeOf change) (lent (now (memory .entry)) (now (ledger .entry))) m (entryFrom (levelOf level) (now (memory .entry)) j)) (recounted (changeOf change) (lent (now (memory .entry)) (now (ledger .entry))) m (entryFrom (levelOf level) (now (memory .entry)) j)) (now (ledger .entry)) r (now (ledger .exit)) ⌝ }
 {
     let done = count_until_stuck(change, level, memory, ledger, j, m);
-    if is_complete(level, memory, ledger, j, m, done) {
+    if is_complete(change, level, memory, ledger, j, m, done) {
         return true;
     }
     count_all(opposite(change), level, memory, ledger, j, done);

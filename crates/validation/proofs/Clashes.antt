@@ -1,23 +1,36 @@
 -- Refusals 11 and 12, block by block, are found entry by entry: a block gains something exactly if some entry gives it.
-use mathlib.Core.Bool.{Bool, true, false, not, _&&_, _||_, and-false}
+use mathlib.Core.Bool.{Bool, true, false, not, _&&_, _||_, and-false, or-false, or-assoc}
 use mathlib.Core.List.{List}
 use mathlib.Core.Logic.{_⊎_, inl, inr, ⊎-elim}
-use mathlib.Core.Path.{_≡_, refl, sym, _∙_}
-use Prim.Native.Nat.{ℕ, _+_, _<_, _≤_}
+use mathlib.Core.Path.{_≡_, refl, sym, _∙_, ap}
+use Prim.Native.Nat.{ℕ, _+_, _-_, _*_, _<_, _≤_}
 use native.Mathlib.Omega.{arith}
-use lib.Dec.{eqb}
-use borrow.Author.Tests.{lt-ltb, ltb-true, eq-eqb, eqb-true}
-use Rattle.words.specs.Bounded.{above, any}
-use Rattle.words.proofs.Bounded.{both-ways, or-left, or-right, and-both, any-first, any-hit, any-found, or-cases, and-true, below-or-above, any-none, any-avoids, or-false-left}
-use Rattle.entries.specs.Entries.{Entry, Level, coverFirst, coverBlocks}
+use lib.ListN.{replicate}
+use borrow.Author.Tests.{lt-ltb, ltb-true}
+use Rattle.words.specs.Bounded.{above, among, any}
+use Rattle.words.proofs.Bounded.{both-ways, or-left, or-right, and-both, any-hit, any-found, or-cases, and-true, below-or-above, any-none, any-avoids, any-same, flag-next, among-in, among-within}
+use Rattle.entries.specs.Entries.{Entry, Level, coverFirst, coverBlocks, covers}
 use Rattle.rules.specs.Store.{Store, blocks, base, Counter, writable, executable, counter, someBlock, someRegionBlock}
 use Rattle.rules.specs.Signature.{signedBlock}
 use Rattle.rules.specs.Tables.{grants, gives, gain, astray}
-use Rattle.rules.specs.Create.{unfitLink, unfitWrite, misplaced, clash, clashes, unsigned}
-use Rattle.rules.proofs.Gains.{gives-within, gives-at, grants-cover, gain-hit, gain-found}
+use Rattle.rules.specs.Create.{misplaced, clash, clashes, unsigned}
+use Rattle.rules.proofs.Gains.{gives-within, gives-at, grants-place, gain-any, gain-hit, gain-found}
 use Rattle.rules.proofs.State.{some-block-hit, some-block-found}
-use Rattle.validation.specs.Tests.{meets, meetsCount, overlap, executesOn, meetsEntry, executesExactly, executedBefore, coverUnsigned, firstUnsigned}
-use Rattle.validation.proofs.Covers.{given-inside, overlap-at, overlap-found}
+use Rattle.rules.proofs.Walk.{cover-within}
+use Rattle.validation.specs.Marks.{marked, meetsMarked, markedUnsigned}
+use Rattle.validation.specs.Tests.{meets, meetsCount, meetsEntry}
+use Rattle.validation.proofs.Bits.{none-marked}
+use Rattle.validation.proofs.Covers.{given-inside, misplaced-astray}
+
+-- Tests of adjacent blocks
+
+no-block-is : (p m : ℕ) (q : ℕ → Bool) → ((b : ℕ) → q b ≡ false) → someBlock p m q ≡ false
+unfolding someBlock
+no-block-is p m q none = any-avoids (λ k. q (p + k)) m (λ k l. none (p + k))
+
+some-block-same : (p m : ℕ) (q r : ℕ → Bool) → ((b : ℕ) → p ≤ b → b < p + m → q b ≡ r b) → someBlock p m q ≡ someBlock p m r
+unfolding someBlock
+some-block-same p m q r same = any-same (λ k. q (p + k)) (λ k. r (p + k)) m (λ k l. same (p + k) (omega arith) (omega arith))
 
 -- An entry and a count, or another entry, by a block to which it gives something
 
@@ -38,43 +51,35 @@ module _ (s : Store) (c d : Counter) (en : Entry) where
       let (b, lo, hi, t) = some-block-found (coverFirst en) (coverBlocks en) isCounted some in
       (b, gives-at c en b grant lo hi, ltb-true 0 (counter d s b) t)
 
-module _ (d e : Entry) where
-  abbrev common : Bool
-  common = overlap (coverFirst d) (coverBlocks d) (coverFirst e) (coverBlocks e)
-
-  executes-at : (b : ℕ) → gives writable d b ≡ true → gives executable e b ≡ true → executesOn d e ≡ true
-  unfolding executesOn
-  executes-at b w x =
-      let (_, lo, hi) = gives-within writable d b w in
-      let (grant, lo′, hi′) = gives-within executable e b x in
-      and-both (grants executable e) common grant (overlap-at (coverFirst d) (coverBlocks d) (coverFirst e) (coverBlocks e) b lo hi lo′ hi′)
-
-  executes-found : grants writable d ≡ true → executesOn d e ≡ true → (b : ℕ) × (gives writable d b ≡ true) × (gives executable e b ≡ true)
-  unfolding executesOn
-  executes-found grant h =
-      let (grant′, o) = and-true (grants executable e) common h in
-      let (b, lo, hi, lo′, hi′) = overlap-found (coverFirst d) (coverBlocks d) (coverFirst e) (coverBlocks e) (grants-cover writable d grant) (grants-cover executable e grant′) o in
-      (b, gives-at writable d b grant lo hi, gives-at executable e b grant′ lo′ hi′)
-
 module _ (m : ℕ) (e : ℕ → Entry) where
-  meets-entry-at : (i k b : ℕ) → k < m → gives writable (e i) b ≡ true → gives executable (e k) b ≡ true → meetsEntry m e (e i) ≡ true
-  unfolding meetsEntry
-  meets-entry-at i k b l w x =
-      let (grant, _, _) = gives-within writable (e i) b w in
-      and-both (grants writable (e i)) (any m (λ k. executesOn (e i) (e k))) grant (any-hit (λ k. executesOn (e i) (e k)) m k l (executes-at (e i) (e k) b w x))
+  abbrev isExecuted : ℕ → Bool
+  isExecuted b = above (gain m e executable b) 0
 
-  meets-entry-found : (i : ℕ) → meetsEntry m e (e i) ≡ true → (k b : ℕ) × (k < m) × (gives writable (e i) b ≡ true) × (gives executable (e k) b ≡ true)
+  meets-entry-at : (i b : ℕ) → gives writable (e i) b ≡ true → 0 < gain m e executable b → meetsEntry m e (e i) ≡ true
+  unfolding meetsEntry
+  meets-entry-at i b w x =
+      let (grant, lo, hi) = gives-within writable (e i) b w in
+      and-both (grants writable (e i)) (someBlock (coverFirst (e i)) (coverBlocks (e i)) isExecuted) grant
+      (some-block-hit (coverFirst (e i)) (coverBlocks (e i)) isExecuted b lo hi (lt-ltb 0 (gain m e executable b) x))
+
+  meets-entry-found : (i : ℕ) → meetsEntry m e (e i) ≡ true → (b : ℕ) × (gives writable (e i) b ≡ true) × (0 < gain m e executable b)
   unfolding meetsEntry
   meets-entry-found i t =
-      let (grant, some) = and-true (grants writable (e i)) (any m (λ k. executesOn (e i) (e k))) t in
-      let (k, l, t) = any-found (λ k. executesOn (e i) (e k)) m some in
-      let (b, w, x) = executes-found (e i) (e k) grant t in
-      (k, b, l, w, x)
+      let (grant, some) = and-true (grants writable (e i)) (someBlock (coverFirst (e i)) (coverBlocks (e i)) isExecuted) t in
+      let (b, lo, hi, x) = some-block-found (coverFirst (e i)) (coverBlocks (e i)) isExecuted some in
+      (b, gives-at writable (e i) b grant lo hi, ltb-true 0 (gain m e executable b) x)
 
-  -- where no entry executes, none meets another
-  no-executes : any m (λ k. grants executable (e k)) ≡ false → any m (λ i. meetsEntry m e (e i)) ≡ false
-  unfolding meetsEntry executesOn
-  no-executes none = any-avoids (λ i. meetsEntry m e (e i)) m (λ i l. rw (any-avoids (λ k. executesOn (e i) (e k)) m (λ k l. rw (any-none (λ k. grants executable (e k)) m none k l) refl)) (and-false (grants writable (e i))))
+  -- where no entry executes, no block is executed, and no entry meets another
+  none-executed : any m (λ k. grants executable (e k)) ≡ false → (b : ℕ) → isExecuted b ≡ false
+  unfolding gives
+  none-executed none b =
+      gain-any m e executable b ∙ any-avoids (λ i. gives executable (e i) b) m (λ i l. rw (any-none (λ k. grants executable (e k)) m none i l) refl)
+
+  none-meets : any m (λ k. grants executable (e k)) ≡ false → any m (λ i. meetsEntry m e (e i)) ≡ false
+  unfolding meetsEntry
+  none-meets none =
+      any-avoids (λ i. meetsEntry m e (e i)) m
+      (λ i l. rw (no-block-is (coverFirst (e i)) (coverBlocks (e i)) isExecuted (none-executed none)) (and-false (grants writable (e i))))
 
 -- "11"
 
@@ -114,8 +119,7 @@ module _ (s : Store) (m : ℕ) (e : ℕ → Entry) where
             let (i, l, t) = gain-found m e writable b g in
             ⊎-elim (λ (k : 0 < counter executable s b). met i l (or-left (meets writable executable (s .ledger) (e i)) (meets executable writable (s .ledger) (e i)) (meets-at s writable executable (e i) b t k)))
             (λ (k : counter executable s b ≤ 0).
-            let (k, l′, t′) = gain-found m e executable b (omega arith) in
-            or-right someMeetsCount someMeetsEntry (any-hit (λ i. meetsEntry m e (e i)) m i l (meets-entry-at m e i k b l′ t t′)))
+            or-right someMeetsCount someMeetsEntry (any-hit (λ i. meetsEntry m e (e i)) m i l (meets-entry-at m e i b t (omega arith))))
             (below-or-above 0 (counter executable s b))
 
   clash-true : (b : ℕ) → (0 < gain m e writable b) ⊎ (0 < gain m e executable b) → 0 < counter writable s b + gain m e writable b → 0 < counter executable s b + gain m e executable b
@@ -146,61 +150,88 @@ module _ (s : Store) (m : ℕ) (e : ℕ → Entry) where
       with-entry : someMeetsEntry ≡ true → someRegionBlock s (clashes s m e) ≡ true
       with-entry f =
           let (i, l, t) = any-found (λ i. meetsEntry m e (e i)) m f in
-          let (k, b, l′, g, g′) = meets-entry-found m e i t in
+          let (b, g, x) = meets-entry-found m e i t in
           let w = gain-hit m e writable b i l g in
-          let x = gain-hit m e executable b k l′ g′ in
           clash-at i b writable l g (clash-true b (inl w) (omega arith) (omega arith))
 
     -- "11", entry by entry
     clash-is : someRegionBlock s (clashes s m e) ≡ someMeets
     clash-is = both-ways (someRegionBlock s (clashes s m e)) someMeets (λ h. let (b, lo, hi, t) = some-block-found (base s) (blocks s) (clashes s m e) h in clash-meets b t) meets-clash
 
-    -- by the scans, one after the other
-    pub clash-counted : any m (λ i. meetsCount (s .ledger) (e i)) ≡ true → true ≡ someRegionBlock s (clashes s m e)
-    clash-counted t = sym (clash-is ∙ or-left someMeetsCount someMeetsEntry t)
+    -- by the tests, one after the other
+    pub clash-counted : any m (λ i. meetsCount (s .ledger) (e i)) ≡ true → someRegionBlock s (clashes s m e) ≡ true
+    clash-counted t = clash-is ∙ or-left someMeetsCount someMeetsEntry t
 
-    pub clash-met : {r : Bool} → any m (λ i. meetsCount (s .ledger) (e i)) ≡ false → r ≡ any m (λ i. meetsEntry m e (e i)) → r ≡ someRegionBlock s (clashes s m e)
-    clash-met f q = rw (clash-is, f) q
+    clash-met : any m (λ i. meetsCount (s .ledger) (e i)) ≡ false → someRegionBlock s (clashes s m e) ≡ any m (λ i. meetsEntry m e (e i))
+    clash-met f = rw (clash-is, f) refl
 
-    pub clash-none : any m (λ i. meetsCount (s .ledger) (e i)) ≡ false → any m (λ i. grants executable (e i)) ≡ false → false ≡ someRegionBlock s (clashes s m e)
-    clash-none f none = clash-met f (sym (no-executes m e none))
+    pub clash-none : any m (λ i. meetsCount (s .ledger) (e i)) ≡ false → any m (λ i. grants executable (e i)) ≡ false → someRegionBlock s (clashes s m e) ≡ false
+    clash-none f none = clash-met f ∙ none-meets m e none
 
-    -- "12", entry by entry: what is executed is looked at for the first entry that executes just that
-    pub unsigned-is : (golden : List ℕ) → any m (firstUnsigned golden s e) ≡ someRegionBlock s (unsigned golden s m e)
-    unfolding firstUnsigned executedBefore executesExactly coverUnsigned
-    unsigned-is golden = both-ways (any m (firstUnsigned golden s e)) (someRegionBlock s (unsigned golden s m e)) there back where
-      bad : ℕ → Bool
-      bad b = not (signedBlock golden (base s) (s .memory) b)
+  -- "12": where no entry executes, nothing has to be signed
+  pub unsigned-none : (golden : List ℕ) → any m (λ i. grants executable (e i)) ≡ false → someRegionBlock s (unsigned golden s m e) ≡ false
+  unsigned-none golden none = no-block-is (base s) (blocks s) (unsigned golden s m e) (λ b. rw (none-executed m e none b) refl)
 
-      there : any m (firstUnsigned golden s e) ≡ true → someRegionBlock s (unsigned golden s m e) ≡ true
-      there h =
-          let (i, l, t) = any-found (firstUnsigned golden s e) m h in
-          let (t, some) = and-true (grants executable (e i) && not (executedBefore i e (coverFirst (e i)) (coverBlocks (e i)))) (coverUnsigned golden s (e i)) t in
-          let (grant, _) = and-true (grants executable (e i)) (not (executedBefore i e (coverFirst (e i)) (coverBlocks (e i)))) t in
-          let (b, lo, hi, u) = some-block-found (coverFirst (e i)) (coverBlocks (e i)) bad some in
-          let given = gives-at executable (e i) b grant lo hi in
-          let (low, high) = given-inside (base s) (blocks s) executable (e i) b (placed i l) given in
-          some-block-hit (base s) (blocks s) (unsigned golden s m e) b low high (and-both (above (gain m e executable b) 0) (bad b) (lt-ltb 0 (gain m e executable b) (gain-hit m e executable b i l given)) u)
+  -- A set of the blocks that the entries execute
 
-      back : someRegionBlock s (unsigned golden s m e) ≡ true → any m (firstUnsigned golden s e) ≡ true
-      back h =
-          let (b, _, _, t) = some-block-found (base s) (blocks s) (unsigned golden s m e) h in
-          let (g, u) = and-true (above (gain m e executable b) 0) (bad b) t in
-          let (i, l, t) = gain-found m e executable b (ltb-true 0 (gain m e executable b) g) in
-          let (grant, lo, hi) = gives-within executable (e i) b t in
-          let f = coverFirst (e i) in
-          let n = coverBlocks (e i) in
-          let p : ℕ → Bool = λ k. executesExactly f n (e k) in
-          let (k, l′, t′, none) = any-first p m (any-hit p m i l (rw (grant, eq-eqb f f refl, eq-eqb n n refl) refl)) in
-          let (t′, same-n) = and-true (grants executable (e k) && eqb (coverFirst (e k)) f) (eqb (coverBlocks (e k)) n) t′ in
-          let (grant′, same-f) = and-true (grants executable (e k)) (eqb (coverFirst (e k)) f) t′ in
-          let same-f : coverFirst (e k) ≡ f = eqb-true (coverFirst (e k)) f same-f in
-          let same-n : coverBlocks (e k) ≡ n = eqb-true (coverBlocks (e k)) n same-n in
-          any-hit (firstUnsigned golden s e) m k l′ (rw (grant′, same-f, same-n, none, some-block-hit f n bad b lo hi u) refl)
+  module _ (marks : List ℕ) (executed : (k : ℕ) → k < blocks s → marked marks k ≡ any m (λ i. gives executable (e i) (base s + k))) where
+    marked-is : (k : ℕ) → k < blocks s → marked marks k ≡ above (gain m e executable (base s + k)) 0
+    marked-is k l = executed k l ∙ sym (gain-any m e executable (base s + k))
+
+    meets-marked-is : (d : Entry) → astray (base s) (blocks s) d ≡ false → meetsMarked (s .ledger) marks d ≡ meetsEntry m e d
+    unfolding meetsMarked meetsEntry
+    meets-marked-is d placed = go (grants writable d) refl where
+      go : (t : Bool) → grants writable d ≡ t → meetsMarked (s .ledger) marks d ≡ meetsEntry m e d
+      go false g = rw g refl
+      go true g =
+          let (low, high) = cover-within (base s) (blocks s) d (grants-place writable d g) placed in
+          rw g
+          (some-block-same (coverFirst d) (coverBlocks d) (λ b. marked marks (b - base s)) (λ b. above (gain m e executable b) 0)
+          (λ b lo hi. let is : base s + (b - base s) ≡ b = omega arith in rw is at (marked-is (b - base s) (omega arith))))
+
+    clash-marked : any m (λ i. meetsCount (s .ledger) (e i)) ≡ false → ((i : ℕ) → i < m → astray (base s) (blocks s) (e i) ≡ false)
+        → any m (λ i. meetsMarked (s .ledger) marks (e i)) ≡ someRegionBlock s (clashes s m e)
+    clash-marked f placed =
+        any-same (λ i. meetsMarked (s .ledger) marks (e i)) (λ i. meetsEntry m e (e i)) m (λ i l. meets-marked-is (e i) (placed i l)) ∙ sym (clash-met placed f)
+
+    unsigned-marked : (golden : List ℕ) → any (blocks s) (markedUnsigned golden s marks) ≡ someRegionBlock s (unsigned golden s m e)
+    unfolding markedUnsigned someBlock
+    unsigned-marked golden =
+        any-same (markedUnsigned golden s marks) (λ k. unsigned golden s m e (base s + k)) (blocks s)
+        (λ k l. ap (λ (t : Bool). t && not (signedBlock golden (base s) (s .memory) (base s + k))) (marked-is k l))
+
+  -- a set that was empty before they joined it
+  module _ (size : ℕ) (marks : List ℕ) (room : blocks s ≤ 8 * size) (joined : (k : ℕ) → marked marks k ≡ (marked (replicate size 0) k || any m (λ i. gives executable (e i) (base s + k)))) where
+    just-executed : (k : ℕ) → k < blocks s → marked marks k ≡ any m (λ i. gives executable (e i) (base s + k))
+    just-executed k l = joined k ∙ (rw (none-marked size k (omega arith)) refl)
+
+    pub clash-found : any m (λ i. meetsCount (s .ledger) (e i)) ≡ false → ((i : ℕ) → i < m → astray (base s) (blocks s) (e i) ≡ false)
+        → {t r : Bool} → r ≡ any m (λ i. meetsMarked (s .ledger) marks (e i)) → r ≡ t → someRegionBlock s (clashes s m e) ≡ t
+    clash-found f placed q h = sym (clash-marked marks just-executed f placed) ∙ sym q ∙ h
+
+    pub unsigned-found : (golden : List ℕ) {t r : Bool} → r ≡ any (blocks s) (markedUnsigned golden s marks) → r ≡ t → someRegionBlock s (unsigned golden s m e) ≡ t
+    unsigned-found golden q h = sym (unsigned-marked marks just-executed golden) ∙ sym q ∙ h
+
+-- The blocks that an entry executes join a set
+
+module _ (marks : List ℕ) (B : ℕ) (e : Entry) (k : ℕ) where
+  pub executed-joins : (now : List ℕ) → grants executable e ≡ true → B ≤ coverFirst e → marked now k ≡ (marked marks k || among (coverFirst e - B) (coverBlocks e) k) → marked now k ≡ (marked marks k || gives executable e (B + k))
+  unfolding gives covers
+  executed-joins now g low h =
+      h ∙ ap (λ (t : Bool). marked marks k || t)
+      (rw g
+      (both-ways (among (coverFirst e - B) (coverBlocks e) k) (among (coverFirst e) (coverBlocks e) (B + k))
+      (λ t. let (lo, hi) = among-within (coverFirst e - B) (coverBlocks e) k t in among-in (coverFirst e) (coverBlocks e) (B + k) (omega arith) (omega arith))
+      (λ t. let (lo, hi) = among-within (coverFirst e) (coverBlocks e) (B + k) t in among-in (coverFirst e - B) (coverBlocks e) k (omega arith) (omega arith))))
+
+  pub none-joins : grants executable e ≡ false → marked marks k ≡ (marked marks k || gives executable e (B + k))
+  unfolding gives
+  none-joins g = rw g (sym (or-false (marked marks k)))
+
+-- those of one entry after the other
+pub joins-next : (p : ℕ → Bool) (i : ℕ) (h : Bool) {f g : Bool} → g ≡ (h || any i p) → f ≡ (g || p i) → f ≡ (h || any (i + 1) p)
+joins-next p i h before one = one ∙ (rw before (or-assoc h (any i p) (p i) ∙ ap (λ (t : Bool). h || t) (flag-next p i refl refl)))
 
 -- 10 does not apply: the entries' places are in the region
 pub all-placed : (v : Level) (s : Store) (p m : ℕ) (e : ℕ → Entry) → any m (λ i. misplaced v s p (e i)) ≡ false → (i : ℕ) → i < m → astray (base s) (blocks s) (e i) ≡ false
-unfolding misplaced
-all-placed v s p m e none i l =
-    let stray = astray (base s) (blocks s) (e i) in
-    or-false-left stray (unfitLink s (e i)) (or-false-left (stray || unfitLink s (e i)) (unfitWrite v s p (e i)) (any-none (λ i. misplaced v s p (e i)) m none i l))
+all-placed v s p m e none i l = misplaced-astray v s p (e i) (any-none (λ i. misplaced v s p (e i)) m none i l)

@@ -9,18 +9,18 @@ use lib.Dec.{ltb}
 use borrow.Author.Tests.{lt-ltb, ltb-true}
 use Rattle.words.specs.Bounded.{neqb, among, any}
 use Rattle.words.specs.Words.{word}
-use Rattle.words.proofs.Bounded.{both-ways, and-true, below-or-above, any-or, among-in, among-within}
+use Rattle.words.proofs.Bounded.{both-ways, and-true, or-false-left, below-or-above, any-or, among-in, among-within}
 use Rattle.entries.specs.Entries.{Entry, Level, l1, l2, coverFirst, coverBlocks}
 use Rattle.rules.specs.Store.{basePlace, Store, blocks, base, recordWord, Counter, writable, typeOf, someBlock, misfit}
 use Rattle.rules.specs.Tables.{typeD, tableBlocks, grants, gives, astray}
-use Rattle.rules.specs.Create.{unfitWrite}
+use Rattle.rules.specs.Create.{unfitLink, unfitWrite, misplaced}
 use Rattle.rules.proofs.Gains.{gives-within, grants-place, grants-cover}
 use Rattle.rules.proofs.State.{some-block-hit, some-block-found}
 use Rattle.rules.proofs.Walk.{cover-within}
-use Rattle.ledger.specs.Needs.{recordOf}
+use Rattle.ledger.specs.Needs.{EntryRecorded, recordOf}
 use Rattle.ledger.proofs.Blocks.{someBlock-records}
 use Rattle.ledger.proofs.Counting.{recorded-inside, entry-inside}
-use Rattle.validation.specs.Needs.{CoverRecorded, EntryRecorded}
+use Rattle.validation.specs.Needs.{CoverRecorded}
 use Rattle.validation.specs.Tests.{someCovered, overlap}
 
 -- 10 does not apply to an entry's place: a block that is given something is in the region
@@ -73,3 +73,10 @@ unfit-write-is v s p e g =
       some-blocks : (v : Level) → 0 < tableBlocks v
       some-blocks l1 = omega arith
       some-blocks l2 = omega arith
+
+-- 10 does not apply: the entry's place is in the region
+pub misplaced-astray : (v : Level) (s : Store) (p : ℕ) (e : Entry) → misplaced v s p e ≡ false → astray (base s) (blocks s) e ≡ false
+unfolding misplaced
+misplaced-astray v s p e none =
+    let stray = astray (base s) (blocks s) e in
+    or-false-left stray (unfitLink s e) (or-false-left (stray || unfitLink s e) (unfitWrite v s p e) none)

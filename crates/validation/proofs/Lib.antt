@@ -1,2 +1,4 @@
-pub mod Covers
+pub mod Bits
 pub mod Clashes
+pub mod Covers
+pub mod Surveys

@@ -1,3 +1,5 @@
 pub mod Tests
 pub mod Needs
 pub mod Pieces
+pub mod Findings
+pub mod Marks

@@ -8,14 +8,16 @@ use Rattle.rules.specs.Refusals.{Refusal, _if_}
 use Rattle.rules.specs.Store.{Store, blocks, base, someRegionBlock}
 use Rattle.rules.specs.Tables.{astray}
 
+-- 11 and 12
+abbrev pub executedEntries : List ℕ → Store → ℕ → (ℕ → Entry) → List Refusal
+executedEntries golden s m e = 11 if someRegionBlock s (clashes s m e) ∷ 12 if someRegionBlock s (unsigned golden s m e) ∷ []
+
 -- of a table that is created at block p
 abbrev pub newEntries : Level → List ℕ → Store → ℕ → ℕ → (ℕ → Entry) → List Refusal
 newEntries v golden s p m e =
     8 if any m (λ i. isUnaccepted (e i))
     ∷ 10 if any m (λ i. misplaced v s p (e i))
-    ∷ 11 if someRegionBlock s (clashes s m e)
-    ∷ 12 if someRegionBlock s (unsigned golden s m e)
-    ∷ []
+    ∷ executedEntries golden s m e
 
 -- of a table that is freed
 abbrev pub oldEntries : Store → ℕ → (ℕ → Entry) → List Refusal

@@ -1,15 +1,16 @@
 // Refusals 8, 10, 11 and 12 of a table's m entries from word j of the memory on: each over all entries before the next.
-use crate::clash::some_clash;
-use crate::scan::some_astray;
-use crate::scan::some_misplaced;
-use crate::scan::some_unaccepted;
-use crate::unsigned::some_target_unsigned;
+use crate::executed::executed_refusal;
+use crate::finding::EXECUTES;
+use crate::finding::MEETS_COUNT;
+use crate::finding::MISPLACED;
+use crate::finding::UNACCEPTED;
+use crate::survey::survey_new;
+use crate::survey::survey_old;
 use entries::entry::Level;
 use ledger::layout::base;
 use ledger::refusals::ACCEPTED;
 use ledger::refusals::CLASH;
 use ledger::refusals::UNFIT_TARGET;
-use ledger::refusals::UNSIGNED;
 use ledger::refusals::WRONG_ENTRY;
 use ledger::region::blocks;
 ghost use mathlib.Core.Path.{_≡_};
@@ -34,17 +35,18 @@ pub fn new_entries_refusal(
     requires { ⌜ Fits (now memory) (now ledger) × HoldsWords (now memory) j m ⌝ }
     ensures { λ r. ⌜ r ≡ answerOf (newEntries (levelOf level) (now (golden .entry)) (lent (now (memory .entry)) (now (ledger .entry))) block m (entryFrom (levelOf level) (now (memory .entry)) j)) ⌝ }
 {
-    if some_unaccepted(level, memory, j, m) {
+    let found = survey_new(level, memory, ledger, block, j, m);
+    if found == UNACCEPTED {
         return WRONG_ENTRY;
     }
-    if some_misplaced(level, memory, ledger, block, j, m) {
+    if found == MISPLACED {
         return UNFIT_TARGET;
     }
-    if some_clash(level, memory, ledger, j, m) {
+    if found == MEETS_COUNT {
         return CLASH;
     }
-    if some_target_unsigned(level, memory, ledger, golden, j, m) {
-        return UNSIGNED;
+    if found == EXECUTES {
+        return executed_refusal(level, memory, ledger, golden, j, m);
     }
     ACCEPTED
 }
@@ -54,10 +56,11 @@ pub fn old_entries_refusal(level: Level, memory: &[u8], ledger: &[u8], j: usize,
     requires { ⌜ Fits (now memory) (now ledger) × HoldsWords (now memory) j m ⌝ }
     ensures { λ r. ⌜ r ≡ answerOf (oldEntries (lent (now (memory .entry)) (now (ledger .entry))) m (entryFrom (levelOf level) (now (memory .entry)) j)) ⌝ }
 {
-    if some_unaccepted(level, memory, j, m) {
+    let found = survey_old(level, memory, j, m, base(ledger), blocks(memory));
+    if found == UNACCEPTED {
         return WRONG_ENTRY;
     }
-    if some_astray(level, memory, j, m, base(ledger), blocks(memory)) {
+    if found == MISPLACED {
         return UNFIT_TARGET;
     }
     ACCEPTED

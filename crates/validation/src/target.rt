@@ -1,15 +1,21 @@
 // Tests of one entry against the ledger.
-use crate::cover::cover_beyond;
 use crate::cover::cover_counts;
 use crate::cover::cover_differs;
 use crate::cover::overlap;
+use crate::finding::EXECUTES;
+use crate::finding::FINE;
+use crate::finding::MEETS_COUNT;
+use crate::finding::MISPLACED;
+use crate::finding::UNACCEPTED;
 use entries::entry::Entry;
 use entries::entry::Level;
 use entries::entry::cover_blocks;
 use entries::entry::cover_first;
 use entries::entry::is_link;
+use entries::entry::is_unaccepted;
 use ledger::counters::Counter;
 use ledger::counters::grants;
+use ledger::counters::grants_some;
 use ledger::layout::TYPE_D;
 use ledger::layout::TYPE_L2;
 use ledger::layout::base;
@@ -18,12 +24,12 @@ use ledger::region::is_astray;
 use ledger::table::table_blocks;
 ghost use mathlib.Core.Path.{_≡_};
 ghost use Rattle.entries.specs.Meaning.{levelOf, meaning};
-ghost use Rattle.rules.specs.Create.{misplaced, unfitLink, unfitWrite};
+ghost use Rattle.rules.specs.Create.{unfitLink, unfitWrite};
 ghost use Rattle.rules.specs.Store.{lent};
 ghost use Rattle.ledger.specs.Meaning.{counterOf};
-ghost use Rattle.ledger.specs.Needs.{Fits};
-ghost use Rattle.validation.specs.Needs.{EntryRecorded};
-ghost use Rattle.validation.specs.Tests.{counterBeyond, entryBeyond, meets, meetsCount};
+ghost use Rattle.ledger.specs.Needs.{EntryRecorded, Fits};
+ghost use Rattle.validation.specs.Findings.{entryFinding, targetFinding};
+ghost use Rattle.validation.specs.Tests.{meets, meetsCount, unfit};
 
 // "a link's block isn't L2"
 fn is_unfit_link(memory: &[u8], ledger: &[u8], e: Entry) -> bool
@@ -50,14 +56,11 @@ fn is_unfit_write(level: Level, memory: &[u8], ledger: &[u8], block: u32, e: Ent
     overlap(cover_first(e), cover_blocks(e), block, table_blocks(level))
 }
 
-// "10 if some entry's place is not wholly in the region", or its target is unfit
-pub fn is_misplaced(level: Level, memory: &[u8], ledger: &[u8], block: u32, e: Entry) -> bool
-    requires { ⌜ Fits (now memory) (now ledger) ⌝ }
-    ensures { λ r. ⌜ r ≡ misplaced (levelOf level) (lent (now (memory .entry)) (now (ledger .entry))) block (meaning e) ⌝ }
+// Its target is unfit.
+fn is_unfit(level: Level, memory: &[u8], ledger: &[u8], block: u32, e: Entry) -> bool
+    requires { ⌜ EntryRecorded (now ledger) (meaning e) ⌝ }
+    ensures { λ r. ⌜ r ≡ unfit (levelOf level) (lent (now (memory .entry)) (now (ledger .entry))) block (meaning e) ⌝ }
 {
-    if is_astray(e, base(ledger), blocks(memory)) {
-        return true;
-    }
     if is_unfit_link(memory, ledger, e) {
         return true;
     }
@@ -76,7 +79,7 @@ fn meets(ledger: &[u8], granted: Counter, counted: Counter, e: Entry) -> bool
 }
 
 // The entry writes where the ledger has execute counted, or the other way round.
-pub fn meets_count(ledger: &[u8], e: Entry) -> bool
+fn meets_count(ledger: &[u8], e: Entry) -> bool
     requires { ⌜ EntryRecorded (now ledger) (meaning e) ⌝ }
     ensures { λ r. ⌜ r ≡ meetsCount (now (ledger .entry)) (meaning e) ⌝ }
 {
@@ -86,27 +89,36 @@ pub fn meets_count(ledger: &[u8], e: Entry) -> bool
     meets(ledger, Counter::Executable, Counter::Writable, e)
 }
 
-// A counter by which the entry counts is below least or above most.
-fn counter_beyond(ledger: &[u8], counter: Counter, e: Entry, least: u32, most: u32) -> bool
+// What is found of the target of an accepted entry whose place is in the region.
+fn target_finding(level: Level, memory: &[u8], ledger: &[u8], block: u32, e: Entry) -> u32
     requires { ⌜ EntryRecorded (now ledger) (meaning e) ⌝ }
-    ensures { λ r. ⌜ r ≡ counterBeyond least most (now (ledger .entry)) (counterOf counter) (meaning e) ⌝ }
+    ensures { λ r. ⌜ r ≡ targetFinding (levelOf level) (lent (now (memory .entry)) (now (ledger .entry))) block (meaning e) ⌝ }
 {
-    if grants(counter, e) {
-        return cover_beyond(ledger, counter, e, least, most);
+    if is_unfit(level, memory, ledger, block, e) {
+        return MISPLACED;
     }
-    false
+    if meets_count(ledger, e) {
+        return MEETS_COUNT;
+    }
+    if grants(Counter::Executable, e) {
+        return EXECUTES;
+    }
+    FINE
 }
 
-// Some of them is.
-pub fn entry_beyond(ledger: &[u8], e: Entry, least: u32, most: u32) -> bool
-    requires { ⌜ EntryRecorded (now ledger) (meaning e) ⌝ }
-    ensures { λ r. ⌜ r ≡ entryBeyond least most (now (ledger .entry)) (meaning e) ⌝ }
+// What is found of one entry of a table that is created at a block.
+pub fn entry_finding(level: Level, memory: &[u8], ledger: &[u8], block: u32, e: Entry) -> u32
+    requires { ⌜ Fits (now memory) (now ledger) ⌝ }
+    ensures { λ r. ⌜ r ≡ entryFinding (levelOf level) (lent (now (memory .entry)) (now (ledger .entry))) block (meaning e) ⌝ }
 {
-    if counter_beyond(ledger, Counter::Writable, e, least, most) {
-        return true;
+    if is_unaccepted(e) {
+        return UNACCEPTED;
     }
-    if counter_beyond(ledger, Counter::Executable, e, least, most) {
-        return true;
+    if is_astray(e, base(ledger), blocks(memory)) {
+        return MISPLACED;
     }
-    counter_beyond(ledger, Counter::Linked, e, least, most)
+    if grants_some(e) {
+        return target_finding(level, memory, ledger, block, e);
+    }
+    FINE
 }

@@ -135,6 +135,10 @@ module _ (p : ℕ → Bool) where
     go true f earlier = let (i, l, t, none) = earlier f in (i, omega arith, t, none)
     go false f earlier = (n, omega arith, rw f at e, f)
 
+  -- the turn of a pass that raises a flag at each number that has p
+  pub flag-next : {f g : Bool} (n : ℕ) → f ≡ any n p → g ≡ (f || p n) → g ≡ any (n + 1) p
+  flag-next n e t = rw (any-more n, ← e) t
+
   -- the turn of a search that goes on
   pub any-step : (n : ℕ) → any n p ≡ false → p n ≡ false → any (n + 1) p ≡ false
   any-step n e f = rw (any-more n, e, f) refl

@@ -6,6 +6,7 @@ mod regions;
 pub mod scene;
 mod simple;
 mod tables;
+mod whole;
 
 use crate::compare::{Comparer, Outcome};
 use crate::monitor::{Call, Kind, Store};
@@ -30,6 +31,7 @@ pub fn run(kind: Kind, comparer: &mut Comparer) -> Outcome {
             reasons::run(kind, comparer)?;
             tables::run(kind, comparer)?;
             reasons::pairs(kind, comparer)?;
+            whole::run(kind, comparer)?;
             hostile::run(kind, comparer)?;
         }
     }

@@ -20,7 +20,7 @@ some-unsigned-requires c κs = let fit = fits _ _ (c .before .before .before .be
     let (lo, hi) = within _ _ _ _ (c .before .before .before .before .before .before .before .pre .inside) in
     let b = c .before .base .ensures in
     let m = c .target-blocks .ensures .is in
-    (omega arith, omega arith)
+    (omega arith, omega arith, omega arith)
 
 returns-2 : tie.Need-returns-2
 unfolding unsignedTarget

@@ -8,7 +8,7 @@ use Rattle.rules.specs.General.{recounted}
 use Rattle.rules.specs.Store.{lent}
 use Rattle.ledger.specs.Meaning.{changeOf}
 use Rattle.validation.specs.Tests.{entryFrom}
-use Rattle.tables.proofs.Counting.{fewer-storable, none-counted, length-reached, next-ready, next-counted}
+use Rattle.tables.proofs.Counting.{fewer-storable, none-counted, length-reached, next-can, next-counted}
 use Rattle.tables.proofs.count.count_all.Statement.{statement}
 use Rattle.tables.proofs.count.count_all.Tie as tie
 
@@ -34,7 +34,7 @@ change-entry-requires c κs =
     let pre = c .before .before .before .before .before .before .pre in
     let bytes : Bytes (c .before .before .before .before .before .before .args .ledger .now) = λ i. omega (arith, c .before .before .before .before .slice-known .given i) in
     let at = c .before .before .before .loop in
-    next-ready _ (pre .0) bytes (at .i) (at .inv .1) (omega arith) (c .entry-at .ensures) (fewer-storable (changeOf (c .before .before .before .before .before .before .args .change)) (pre .0) bytes (at .i + 1) (c .before .before .before .before .before .before .args .m) (omega arith) (pre .1))
+    next-can _ (pre .0) bytes (at .i) (at .inv .1) (omega arith) (c .entry-at .ensures) (fewer-storable (changeOf (c .before .before .before .before .before .before .args .change)) (pre .0) bytes (at .i + 1) (c .before .before .before .before .before .before .args .m) (omega arith) (pre .1))
 
 loop-again : tie.Need-loop-again Inv-loop μ-loop
 loop-again c =

@@ -10,7 +10,7 @@ returns : tie.Need-returns
 returns c = rw (lt-leb _ _ (c .if1 .taken))
 
 returns-2 : tie.Need-returns-2
-returns-2 c = rw (le-leb _ _ (c .before .if1 .left)) (ap not (c .some-above-limit .ensures))
+returns-2 c = rw (le-leb _ _ (c .before .if1 .left)) (ap not (c .ends-above .ensures))
 
 pub is-complete-spec : {M : Type 1} → statement M
 is-complete-spec = tie.close (tie.spec returns (λ c κs. search needs) returns-2)

@@ -4,7 +4,7 @@ use Rattle.tables.proofs.count.is_stuck.Statement.{statement}
 use Rattle.tables.proofs.count.is_stuck.Tie as tie
 
 returns : tie.Need-returns
-returns c = rw (c .before .before .least-of .ensures, c .before .most-of .ensures) at (c .entry-beyond .ensures)
+returns c = rw (c .before .before .least-before .ensures, c .before .most-of .ensures) at (c .entry-beyond .ensures)
 
 pub is-stuck-spec : {M : Type 1} → statement M
 is-stuck-spec =

@@ -1,34 +1,36 @@
--- Each return is decided by the tests up to its own. Where 10 has passed, the entries' places are in the region.
+-- What is found decides: first 8, then 10, then 11 against the ledger; the rest is left to the entries that execute.
+use Rattle.ledger.proofs.Judge.{decides, judged}
+use Rattle.validation.proofs.Surveys.{new-unaccepted, new-misplaced, placed-all, new-rest, new-counted, uncounted, new-none}
 use borrow.Author.Needs.{needs}
-use Rattle.words.proofs.Bounded.{told}
-use Rattle.ledger.proofs.Judge.{decides, none, here, past}
-use Rattle.validation.proofs.Clashes.{all-placed}
 use Rattle.validation.proofs.refusal.new_entries_refusal.Statement.{statement}
 use Rattle.validation.proofs.refusal.new_entries_refusal.Tie as tie
 
 returns : tie.Need-returns
-returns c = decides (here (told (c .before .some-unaccepted .ensures) (c .if1 .taken)))
+returns c = decides (new-unaccepted _ _ _ _ _ _ (c .before .survey-new .ensures) (c .if1 .taken))
 
 returns-2 : tie.Need-returns-2
-returns-2 c = decides (past (told (c .before .before .before .some-unaccepted .ensures) (c .before .before .if1 .left)) (here (told (c .before .some-misplaced .ensures) (c .if2 .taken))))
-
-some-clash-requires : tie.Need-some-clash-requires
-some-clash-requires c κs = record { fits = c .before .before .before .before .before .before .before .pre .0; holds = c .before .before .before .before .before .before .before .pre .1; placed = all-placed _ _ _ _ _ (told (c .before .some-misplaced .ensures) (c .if2 .left)) }
+returns-2 c = decides (new-misplaced _ _ _ _ _ _ (c .before .before .survey-new .ensures) (c .before .if1 .left) (c .if2 .taken))
 
 returns-3 : tie.Need-returns-3
-returns-3 c = decides (past (told (c .before .before .before .before .before .some-unaccepted .ensures) (c .before .before .before .before .if1 .left)) (past (told (c .before .before .before .some-misplaced .ensures) (c .before .before .if2 .left)) (here (told (c .before .some-clash .ensures) (c .if3 .taken)))))
+returns-3 c = decides (new-counted _ _ _ _ _ _ (c .before .before .before .survey-new .ensures) (c .before .before .if1 .left) (c .before .if2 .left) (c .if3 .taken))
 
-some-target-unsigned-requires : tie.Need-some-target-unsigned-requires
-some-target-unsigned-requires c κs = record { fits = c .before .before .before .before .before .before .before .before .before .pre .0; holds = c .before .before .before .before .before .before .before .before .before .pre .1; placed = all-placed _ _ _ _ _ (told (c .before .before .before .some-misplaced .ensures) (c .before .before .if2 .left)) }
+executed-refusal-requires : tie.Need-executed-refusal-requires
+executed-refusal-requires c κs = (record { fits = c .before .before .before .before .before .before .before .before .pre .0; holds = c .before .before .before .before .before .before .before .before .pre .1; placed = placed-all _ (c .before .before .before .before .before .before .before .before .args .golden .now) _ _ _ _ (c .before .before .before .before .survey-new .ensures) (c .before .before .before .if1 .left) (c .before .before .if2 .left) }, uncounted _ (c .before .before .before .before .before .before .before .before .args .golden .now) _ _ _ _ (c .before .before .before .before .survey-new .ensures) (c .before .before .before .if1 .left) (c .before .before .if2 .left) (c .before .if3 .left))
 
 returns-4 : tie.Need-returns-4
-returns-4 c = decides (past (told (c .before .before .before .before .before .before .before .some-unaccepted .ensures) (c .before .before .before .before .before .before .if1 .left)) (past (told (c .before .before .before .before .before .some-misplaced .ensures) (c .before .before .before .before .if2 .left)) (past (told (c .before .before .before .some-clash .ensures) (c .before .before .if3 .left)) (here (told (c .before .some-target-unsigned .ensures) (c .if4 .taken))))))
+returns-4 c = decides (new-rest _ _ _ _ _ _ (c .before .before .before .before .before .survey-new .ensures) (c .before .before .before .before .if1 .left) (c .before .before .before .if2 .left) (judged _ (c .executed-refusal .ensures)))
 
 returns-5 : tie.Need-returns-5
-returns-5 c = decides (past (told (c .before .before .before .before .before .before .before .some-unaccepted .ensures) (c .before .before .before .before .before .before .if1 .left)) (past (told (c .before .before .before .before .before .some-misplaced .ensures) (c .before .before .before .before .if2 .left)) (past (told (c .before .before .before .some-clash .ensures) (c .before .before .if3 .left)) (past (told (c .before .some-target-unsigned .ensures) (c .if4 .left)) none))))
+returns-5 c = decides (new-none _ _ _ _ _ _ (c .before .before .before .before .survey-new .ensures) (c .before .before .before .if1 .left) (c .before .before .if2 .left) (c .before .if3 .left) (c .if4 .left))
 
 pub new-entries-refusal-spec : {M : Type 1} → statement M
 new-entries-refusal-spec =
     tie.close
-    (tie.spec (λ c κs. search needs) returns (λ c κs. search needs) returns-2 some-clash-requires returns-3
-    some-target-unsigned-requires returns-4 returns-5)
+    (tie.spec
+    (λ c κs. search needs)
+    returns
+    returns-2
+    returns-3
+    executed-refusal-requires
+    returns-4
+    returns-5)

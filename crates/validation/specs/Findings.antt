@@ -1,0 +1,38 @@
+-- What one look at a table finds: the greatest of what is found of its entries.
+use mathlib.Core.Bool.{Bool, false, cond}
+use Prim.Native.Nat.{ℕ}
+use lib.Dec.{ltb}
+use Rattle.words.specs.Bounded.{any}
+use Rattle.entries.specs.Entries.{Entry, Level, isUnaccepted}
+use Rattle.rules.specs.Create.{misplaced}
+use Rattle.rules.specs.Store.{Store, executable}
+use Rattle.rules.specs.Tables.{grants, astray}
+use Rattle.validation.specs.Tests.{unfit, meetsCount}
+
+abbrev pub greater : ℕ → ℕ → ℕ
+greater x y = cond (ltb x y) y x
+
+-- an unaccepted form, for 8; a place or target that is unfit, for 10; a count of the ledger that is met, for 11; or that something executes
+unfoldable pub finding : Bool → Bool → Bool → Bool → ℕ
+finding isBad isMisplaced meets executes = cond isBad 4 (cond isMisplaced 3 (cond meets 2 (cond executes 1 0)))
+
+-- of one entry of a table that is created at block p
+abbrev pub entryFinding : Level → Store → ℕ → Entry → ℕ
+entryFinding v s p e = finding (isUnaccepted e) (misplaced v s p e) (meetsCount (s .ledger) e) (grants executable e)
+
+-- of its target, where its form is accepted and its place is in the region
+abbrev pub targetFinding : Level → Store → ℕ → Entry → ℕ
+targetFinding v s p e = finding false (unfit v s p e) (meetsCount (s .ledger) e) (grants executable e)
+
+-- of its m entries e
+abbrev pub newFinding : Level → Store → ℕ → ℕ → (ℕ → Entry) → ℕ
+newFinding v s p m e =
+    finding (any m (λ i. isUnaccepted (e i))) (any m (λ i. misplaced v s p (e i))) (any m (λ i. meetsCount (s .ledger) (e i))) (any m (λ i. grants executable (e i)))
+
+-- of one entry of a table that is freed, in a region of n blocks from B on
+abbrev pub placeFinding : ℕ → ℕ → Entry → ℕ
+placeFinding B n e = finding (isUnaccepted e) (astray B n e) false false
+
+-- of its m entries e
+abbrev pub oldFinding : ℕ → ℕ → ℕ → (ℕ → Entry) → ℕ
+oldFinding B n m e = finding (any m (λ i. isUnaccepted (e i))) (any m (λ i. astray B n (e i))) false false

@@ -1,0 +1,77 @@
+// One look at a table: the greatest of what is found of its m entries, from word j of the memory on. It ends at an entry of an unaccepted form.
+use crate::finding::FINE;
+use crate::finding::MISPLACED;
+use crate::finding::UNACCEPTED;
+use crate::finding::greater;
+use crate::target::entry_finding;
+use entries::decode::entry_at;
+use entries::entry::Entry;
+use entries::entry::Level;
+use entries::entry::is_fault;
+use entries::entry::is_unaccepted;
+use ledger::region::is_astray;
+ghost use mathlib.Core.Path.{_≡_};
+ghost use Prim.Native.Nat.{_<_, _^_};
+ghost use Rattle.entries.specs.Meaning.{levelOf, meaning};
+ghost use Rattle.rules.specs.Store.{lent};
+ghost use Rattle.ledger.specs.Needs.{Fits};
+ghost use Rattle.validation.specs.Findings.{entryFinding, greater, newFinding, oldFinding, placeFinding};
+ghost use Rattle.validation.specs.Needs.{HoldsWords};
+ghost use Rattle.validation.specs.Tests.{entryFrom};
+
+// The greater of what was found before and what is found of one more entry, of a table that is created at a block.
+fn found_with(level: Level, memory: &[u8], ledger: &[u8], block: u32, found: u32, e: Entry) -> u32
+    requires { ⌜ Fits (now memory) (now ledger) ⌝ }
+    ensures { λ r. ⌜ r ≡ greater found (entryFinding (levelOf level) (lent (now (memory .entry)) (now (ledger .entry))) block (meaning e)) ⌝ }
+{
+    if is_fault(e) {
+        return found;
+    }
+    greater(found, entry_finding(level, memory, ledger, block, e))
+}
+
+// Of a table that is created at a block.
+pub fn survey_new(level: Level, memory: &[u8], ledger: &[u8], block: u32, j: usize, m: usize) -> u32
+    requires { ⌜ Fits (now memory) (now ledger) × HoldsWords (now memory) j m ⌝ }
+    ensures { λ r. ⌜ r ≡ newFinding (levelOf level) (lent (now (memory .entry)) (now (ledger .entry))) block m (entryFrom (levelOf level) (now (memory .entry)) j) ⌝ }
+{
+    let mut found = FINE;
+    for i in 0..m {
+        let e = entry_at(level, memory, j + i);
+        found = found_with(level, memory, ledger, block, found, e);
+        if found == UNACCEPTED {
+            return UNACCEPTED;
+        }
+    }
+    found
+}
+
+// What is found of one entry of a table that is freed, in a region of n blocks from first on.
+fn place_finding(e: Entry, first: u32, n: usize) -> u32
+    requires { ⌜ n < 2 ^ 32 ⌝ }
+    ensures { λ r. ⌜ r ≡ placeFinding first n (meaning e) ⌝ }
+{
+    if is_unaccepted(e) {
+        return UNACCEPTED;
+    }
+    if is_astray(e, first, n) {
+        return MISPLACED;
+    }
+    FINE
+}
+
+// Of a table that is freed.
+pub fn survey_old(level: Level, memory: &[u8], j: usize, m: usize, first: u32, n: usize) -> u32
+    requires { ⌜ HoldsWords (now memory) j m × (n < 2 ^ 32) ⌝ }
+    ensures { λ r. ⌜ r ≡ oldFinding first n m (entryFrom (levelOf level) (now (memory .entry)) j) ⌝ }
+{
+    let mut found = FINE;
+    for i in 0..m {
+        let one = place_finding(entry_at(level, memory, j + i), first, n);
+        if one == UNACCEPTED {
+            return UNACCEPTED;
+        }
+        found = greater(found, one);
+    }
+    found
+}
