@@ -36,10 +36,4 @@ returns-2 c =
 pub counter-beyond-spec : {M : Type 1} → statement M
 counter-beyond-spec =
     tie.close
-    (tie.spec
-    (λ c κs. search needs)
-    returns
-    record-of-requires
-    (λ c κs. search needs)
-    some-beyond-requires
-    returns-2)
+    (tie.spec (λ c κs. search needs) returns record-of-requires (λ c κs. search needs) some-beyond-requires returns-2)

@@ -1,8 +1,8 @@
 -- A fault grants nothing; else one counter after the other.
 use mathlib.Core.Path.{refl, _∙_}
+use borrow.Author.Needs.{needs}
 use Rattle.words.proofs.Bounded.{told}
 use Rattle.ledger.proofs.Counting.{grants-none, grants-link, grants-right}
-use borrow.Author.Needs.{needs}
 use Rattle.ledger.proofs.counters.grants_some.Statement.{statement}
 use Rattle.ledger.proofs.counters.grants_some.Tie as tie
 
@@ -18,11 +18,5 @@ returns-3 c = (rw (c .bits .ensures, c .before .rights .ensures) refl) ∙ grant
 pub grants-some-spec : {M : Type 1} → statement M
 grants-some-spec =
     tie.close
-    (tie.spec
-    (λ c κs. search needs)
-    returns
-    (λ c κs. search needs)
-    returns-2
-    (λ c κs. search needs)
-    (λ c κs. search needs)
-    returns-3)
+    (tie.spec (λ c κs. search needs) returns (λ c κs. search needs) returns-2 (λ c κs. search needs)
+    (λ c κs. search needs) returns-3)

@@ -1,6 +1,6 @@
 -- The block is that of its place in the memory.
-use Rattle.rules.specs.Signature.{signedBlock}
 use borrow.Author.Needs.{needs}
+use Rattle.rules.specs.Signature.{signedBlock}
 use Rattle.ledger.proofs.scan.is_signed_block.Statement.{statement}
 use Rattle.ledger.proofs.scan.is_signed_block.Tie as tie
 

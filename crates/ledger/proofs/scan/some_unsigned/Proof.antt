@@ -37,14 +37,5 @@ returns-2 c = scan-end _ _ _ (c .before .loop .inv) (omega arith)
 pub some-unsigned-spec : {M : Type 1} → statement M
 some-unsigned-spec =
     tie.close
-    (tie.spec
-    Inv-loop
-    μ-loop
-    loop-holds
-    add-is-signed-block
-    is-signed-block-requires
-    returns
-    (λ c. omega arith)
-    (λ c. omega arith)
-    loop-again
-    returns-2)
+    (tie.spec Inv-loop μ-loop loop-holds add-is-signed-block is-signed-block-requires returns (λ c. omega arith)
+    (λ c. omega arith) loop-again returns-2)

@@ -29,10 +29,4 @@ returns-2 c = rw (told (c .before .before .before .before .allows .ensures) (not
 pub is-unsigned-target-spec : {M : Type 1} → statement M
 is-unsigned-target-spec =
     tie.close
-    (tie.spec
-    (λ c κs. search needs)
-    returns
-    base-requires
-    (λ c κs. search needs)
-    some-unsigned-requires
-    returns-2)
+    (tie.spec (λ c κs. search needs) returns base-requires (λ c κs. search needs) some-unsigned-requires returns-2)

@@ -2,13 +2,13 @@
 use mathlib.Core.Path.{refl}
 use native.Mathlib.Omega.{arith}
 use borrow.Author.Tests.{not-true}
+use borrow.Author.Needs.{needs}
 use Rattle.words.proofs.Bounded.{told}
 use Rattle.words.proofs.Words.{Bytes}
 use Rattle.rules.specs.Store.{lent}
 use Rattle.ledger.specs.Meaning.{changeOf}
 use Rattle.validation.proofs.Covers.{entry-recorded}
 use Rattle.tables.proofs.Counting.{left-alone, was-changed, entry-idle, entry-countable}
-use borrow.Author.Needs.{needs}
 use Rattle.tables.proofs.count.count_entry.Statement.{statement}
 use Rattle.tables.proofs.count.count_entry.Tie as tie
 
@@ -35,12 +35,5 @@ returns-3 c = was-changed (told (c .before .before .before .before .before .is-s
 pub count-entry-spec : {M : Type 1} → statement M
 count-entry-spec =
     tie.close
-    (tie.spec
-    (λ c κs. tt)
-    returns
-    is-stuck-requires
-    same-length
-    returns-2
-    change-entry-requires
-    (λ c. search needs)
+    (tie.spec (λ c κs. tt) returns is-stuck-requires same-length returns-2 change-entry-requires (λ c. search needs)
     returns-3)

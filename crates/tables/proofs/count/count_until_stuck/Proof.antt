@@ -64,17 +64,5 @@ returns-2 c = let e : c .before .loop .i ≡ c .before .before .before .before .
 pub count-until-stuck-spec : {M : Type 1} → statement M
 count-until-stuck-spec =
     tie.close
-    (tie.spec
-    Inv-loop
-    μ-loop
-    loop-holds
-    add-entry-at
-    entry-at-requires
-    count-entry-requires
-    same-length
-    returns
-    (λ c. omega arith)
-    (λ c. omega arith)
-    loop-again
-    same-length-2
-    returns-2)
+    (tie.spec Inv-loop μ-loop loop-holds add-entry-at entry-at-requires count-entry-requires same-length returns
+    (λ c. omega arith) (λ c. omega arith) loop-again same-length-2 returns-2)

@@ -1,8 +1,8 @@
 -- Whether all are counted is looked at first.
-use mathlib.Core.Path.{ap}
 use mathlib.Core.Bool.{not}
-use borrow.Author.Needs.{needs}
+use mathlib.Core.Path.{ap}
 use borrow.Author.Tests.{lt-leb, le-leb}
+use borrow.Author.Needs.{needs}
 use Rattle.tables.proofs.count.is_complete.Statement.{statement}
 use Rattle.tables.proofs.count.is_complete.Tie as tie
 

@@ -1,10 +1,10 @@
 -- The set is that of the blocks that the entries execute; each return is decided by the tests up to its own.
 use native.Mathlib.Omega.{arith}
+use borrow.Author.Needs.{needs}
 use Rattle.rules.specs.Store.{lent}
 use Rattle.rules.proofs.State.{fits}
 use Rattle.ledger.proofs.Judge.{decides, none, here, past}
 use Rattle.validation.proofs.Clashes.{clash-found, unsigned-found}
-use borrow.Author.Needs.{needs}
 use Rattle.validation.proofs.executed.executed_refusal.Statement.{statement}
 use Rattle.validation.proofs.executed.executed_refusal.Tie as tie
 
@@ -39,13 +39,5 @@ returns-3 c =
 pub executed-refusal-spec : {M : Type 1} → statement M
 executed-refusal-spec =
     tie.close
-    (tie.spec
-    (λ c. search needs)
-    (λ c κs. search needs)
-    (λ c. search needs)
-    (λ c κs. search needs)
-    returns
-    (λ c. search needs)
-    (λ c κs. search needs)
-    returns-2
-    returns-3)
+    (tie.spec (λ c. search needs) (λ c κs. search needs) (λ c. search needs) (λ c κs. search needs) returns
+    (λ c. search needs) (λ c κs. search needs) returns-2 returns-3)

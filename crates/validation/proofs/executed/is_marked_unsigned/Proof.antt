@@ -35,11 +35,5 @@ returns-2 c = rw (told (c .before .before .before .is-marked .ensures) (not-fals
 pub is-marked-unsigned-spec : {M : Type 1} → statement M
 is-marked-unsigned-spec =
     tie.close
-    (tie.spec
-    is-marked-requires
-    returns
-    base-requires
-    cast-is-signed-block
-    add-is-signed-block
-    is-signed-block-requires
-    returns-2)
+    (tie.spec is-marked-requires returns base-requires cast-is-signed-block add-is-signed-block
+    is-signed-block-requires returns-2)

@@ -55,15 +55,5 @@ returns c = let e : c .before .loop .i ≡ c .before .before .before .before .be
 pub mark-all-executed-spec : {M : Type 1} → statement M
 mark-all-executed-spec =
     tie.close
-    (tie.spec
-    Inv-loop
-    μ-loop
-    loop-holds
-    add-entry-at
-    entry-at-requires
-    mark-executed-requires
-    (λ c. omega arith)
-    (λ c. omega arith)
-    loop-again
-    same-length
-    returns)
+    (tie.spec Inv-loop μ-loop loop-holds add-entry-at entry-at-requires mark-executed-requires (λ c. omega arith)
+    (λ c. omega arith) loop-again same-length returns)

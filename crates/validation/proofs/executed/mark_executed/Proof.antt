@@ -1,12 +1,12 @@
 -- What the entry does not execute is not marked; else the blocks that it covers are.
 use native.Mathlib.Omega.{arith}
+use borrow.Author.Needs.{needs}
 use Rattle.words.proofs.Bounded.{told}
 use Rattle.rules.specs.Store.{executable}
 use Rattle.rules.proofs.Gains.{grants-place}
 use Rattle.rules.proofs.State.{fits}
 use Rattle.rules.proofs.Walk.{cover-within}
 use Rattle.validation.proofs.Clashes.{executed-joins, none-joins}
-use borrow.Author.Needs.{needs}
 use Rattle.validation.proofs.executed.mark_executed.Statement.{statement}
 use Rattle.validation.proofs.executed.mark_executed.Tie as tie
 
@@ -33,13 +33,5 @@ returns-2 c = λ k. none-joins _ _ _ k (told (c .before .grants .ensures) (c .if
 pub mark-executed-spec : {M : Type 1} → statement M
 mark-executed-spec =
     tie.close
-    (tie.spec
-    (λ c κs. search needs)
-    (λ c κs. search needs)
-    record-of-requires
-    (λ c κs. search needs)
-    (λ c. search needs)
-    mark-blocks-requires
-    (λ c. search needs)
-    returns
-    returns-2)
+    (tie.spec (λ c κs. search needs) (λ c κs. search needs) record-of-requires (λ c κs. search needs)
+    (λ c. search needs) mark-blocks-requires (λ c. search needs) returns returns-2)

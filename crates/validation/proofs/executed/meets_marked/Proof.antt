@@ -1,6 +1,7 @@
 -- Only what is writable is looked up in the set.
 use mathlib.Core.Path.{_∙_}
 use native.Mathlib.Omega.{arith}
+use borrow.Author.Needs.{needs}
 use Rattle.words.proofs.Bounded.{told}
 use Rattle.rules.specs.Store.{writable}
 use Rattle.rules.proofs.Gains.{grants-place}
@@ -8,7 +9,6 @@ use Rattle.rules.proofs.State.{fits}
 use Rattle.rules.proofs.Walk.{cover-within}
 use Rattle.ledger.proofs.Blocks.{someBlock-records}
 use Rattle.validation.specs.Marks.{marked, meetsMarked}
-use borrow.Author.Needs.{needs}
 use Rattle.validation.proofs.executed.meets_marked.Statement.{statement}
 use Rattle.validation.proofs.executed.meets_marked.Tie as tie
 
@@ -37,12 +37,5 @@ returns-2 c = rw (told (c .before .grants .ensures) (c .if1 .left))
 pub meets-marked-spec : {M : Type 1} → statement M
 meets-marked-spec =
     tie.close
-    (tie.spec
-    (λ c κs. search needs)
-    (λ c κs. search needs)
-    record-of-requires
-    (λ c κs. search needs)
-    (λ c. search needs)
-    some-marked-requires
-    returns
-    returns-2)
+    (tie.spec (λ c κs. search needs) (λ c κs. search needs) record-of-requires (λ c κs. search needs)
+    (λ c. search needs) some-marked-requires returns returns-2)

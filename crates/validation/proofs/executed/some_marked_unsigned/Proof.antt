@@ -34,14 +34,5 @@ returns-2 c = scan-end _ _ _ (c .before .loop .inv) (omega (arith, c .before .be
 pub some-marked-unsigned-spec : {M : Type 1} → statement M
 some-marked-unsigned-spec =
     tie.close
-    (tie.spec
-    Inv-loop
-    μ-loop
-    (λ c κs. tt)
-    loop-holds
-    is-marked-unsigned-requires
-    returns
-    (λ c. omega arith)
-    loop-less
-    loop-again
-    returns-2)
+    (tie.spec Inv-loop μ-loop (λ c κs. tt) loop-holds is-marked-unsigned-requires returns (λ c. omega arith) loop-less
+    loop-again returns-2)

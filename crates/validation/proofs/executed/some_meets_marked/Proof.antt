@@ -38,15 +38,5 @@ returns-2 c = scan-end _ _ _ (c .before .loop .inv) (omega arith)
 pub some-meets-marked-spec : {M : Type 1} → statement M
 some-meets-marked-spec =
     tie.close
-    (tie.spec
-    Inv-loop
-    μ-loop
-    loop-holds
-    add-entry-at
-    entry-at-requires
-    meets-marked-requires
-    returns
-    (λ c. omega arith)
-    (λ c. omega arith)
-    loop-again
-    returns-2)
+    (tie.spec Inv-loop μ-loop loop-holds add-entry-at entry-at-requires meets-marked-requires returns
+    (λ c. omega arith) (λ c. omega arith) loop-again returns-2)

@@ -1,7 +1,7 @@
 -- The bit of the block.
 use mathlib.Core.Path.{refl}
-use Rattle.validation.specs.Marks.{marked}
 use borrow.Author.Needs.{needs}
+use Rattle.validation.specs.Marks.{marked}
 use Rattle.validation.proofs.marks.is_marked.Statement.{statement}
 use Rattle.validation.proofs.marks.is_marked.Tie as tie
 

@@ -1,7 +1,7 @@
 -- The byte of the block gets its bit.
 use native.Mathlib.Omega.{arith}
-use Rattle.validation.proofs.Bits.{mark-joins}
 use borrow.Author.Needs.{needs}
+use Rattle.validation.proofs.Bits.{mark-joins}
 use Rattle.validation.proofs.marks.mark.Statement.{statement}
 use Rattle.validation.proofs.marks.mark.Tie as tie
 

@@ -38,14 +38,5 @@ returns c = let e : c .before .loop .i ≡ c .before .before .before .args .m = 
 pub mark-blocks-spec : {M : Type 1} → statement M
 mark-blocks-spec =
     tie.close
-    (tie.spec
-    Inv-loop
-    μ-loop
-    loop-holds
-    add-mark
-    mark-requires
-    (λ c. omega arith)
-    (λ c. omega arith)
-    loop-again
-    same-length
-    returns)
+    (tie.spec Inv-loop μ-loop loop-holds add-mark mark-requires (λ c. omega arith) (λ c. omega arith) loop-again
+    same-length returns)

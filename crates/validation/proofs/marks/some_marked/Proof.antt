@@ -33,14 +33,5 @@ returns-2 c = scan-end _ _ _ (c .before .loop .inv) (omega arith)
 pub some-marked-spec : {M : Type 1} → statement M
 some-marked-spec =
     tie.close
-    (tie.spec
-    Inv-loop
-    μ-loop
-    loop-holds
-    add-is-marked
-    is-marked-requires
-    returns
-    (λ c. omega arith)
-    (λ c. omega arith)
-    loop-again
-    returns-2)
+    (tie.spec Inv-loop μ-loop loop-holds add-is-marked is-marked-requires returns (λ c. omega arith)
+    (λ c. omega arith) loop-again returns-2)

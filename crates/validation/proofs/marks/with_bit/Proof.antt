@@ -1,7 +1,7 @@
 -- By the computed law of a bit that is set.
 use native.Mathlib.Omega.{arith}
-use Rattle.validation.proofs.Bits.{bit-set}
 use borrow.Author.Needs.{needs}
+use Rattle.validation.proofs.Bits.{bit-set}
 use Rattle.validation.proofs.marks.with_bit.Statement.{statement}
 use Rattle.validation.proofs.marks.with_bit.Tie as tie
 

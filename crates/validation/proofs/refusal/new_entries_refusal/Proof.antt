@@ -1,7 +1,7 @@
 -- What is found decides: first 8, then 10, then 11 against the ledger; the rest is left to the entries that execute.
+use borrow.Author.Needs.{needs}
 use Rattle.ledger.proofs.Judge.{decides, judged}
 use Rattle.validation.proofs.Surveys.{new-unaccepted, new-misplaced, placed-all, new-rest, new-counted, uncounted, new-none}
-use borrow.Author.Needs.{needs}
 use Rattle.validation.proofs.refusal.new_entries_refusal.Statement.{statement}
 use Rattle.validation.proofs.refusal.new_entries_refusal.Tie as tie
 
@@ -26,11 +26,4 @@ returns-5 c = decides (new-none _ _ _ _ _ _ (c .before .before .before .before .
 pub new-entries-refusal-spec : {M : Type 1} → statement M
 new-entries-refusal-spec =
     tie.close
-    (tie.spec
-    (λ c κs. search needs)
-    returns
-    returns-2
-    returns-3
-    executed-refusal-requires
-    returns-4
-    returns-5)
+    (tie.spec (λ c κs. search needs) returns returns-2 returns-3 executed-refusal-requires returns-4 returns-5)

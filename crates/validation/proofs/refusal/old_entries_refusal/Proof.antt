@@ -1,10 +1,10 @@
 -- What is found decides: first 8, then 10.
 use native.Mathlib.Omega.{arith}
+use borrow.Author.Needs.{needs}
 use Rattle.rules.specs.Store.{lent}
 use Rattle.rules.proofs.State.{fits}
 use Rattle.ledger.proofs.Judge.{decides}
 use Rattle.validation.proofs.Surveys.{old-unaccepted, old-astray, old-none}
-use borrow.Author.Needs.{needs}
 use Rattle.validation.proofs.refusal.old_entries_refusal.Statement.{statement}
 use Rattle.validation.proofs.refusal.old_entries_refusal.Tie as tie
 

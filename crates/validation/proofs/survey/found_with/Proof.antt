@@ -1,9 +1,9 @@
 -- A fault leaves what was found.
 use mathlib.Core.Path.{_∙_, ap}
+use borrow.Author.Needs.{needs}
 use Rattle.words.proofs.Bounded.{told}
 use Rattle.validation.specs.Findings.{greater}
 use Rattle.validation.proofs.Surveys.{found-fault}
-use borrow.Author.Needs.{needs}
 use Rattle.validation.proofs.survey.found_with.Statement.{statement}
 use Rattle.validation.proofs.survey.found_with.Tie as tie
 

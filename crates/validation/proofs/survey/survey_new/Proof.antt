@@ -43,15 +43,5 @@ returns-2 c = let e : c .before .loop .i ≡ c .before .before .before .before .
 pub survey-new-spec : {M : Type 1} → statement M
 survey-new-spec =
     tie.close
-    (tie.spec
-    Inv-loop
-    μ-loop
-    loop-holds
-    add-entry-at
-    entry-at-requires
-    found-with-requires
-    returns
-    (λ c. omega arith)
-    (λ c. omega arith)
-    loop-again
-    returns-2)
+    (tie.spec Inv-loop μ-loop loop-holds add-entry-at entry-at-requires found-with-requires returns (λ c. omega arith)
+    (λ c. omega arith) loop-again returns-2)

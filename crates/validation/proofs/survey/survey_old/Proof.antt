@@ -40,16 +40,5 @@ returns-2 c = let e : c .before .loop .i ≡ c .before .before .before .args .m 
 pub survey-old-spec : {M : Type 1} → statement M
 survey-old-spec =
     tie.close
-    (tie.spec
-    Inv-loop
-    μ-loop
-    loop-holds
-    add-entry-at
-    entry-at-requires
-    place-finding-requires
-    returns
-    (λ c κs. tt)
-    (λ c. omega arith)
-    (λ c. omega arith)
-    loop-again
-    returns-2)
+    (tie.spec Inv-loop μ-loop loop-holds add-entry-at entry-at-requires place-finding-requires returns (λ c κs. tt)
+    (λ c. omega arith) (λ c. omega arith) loop-again returns-2)

@@ -1,12 +1,12 @@
 -- Each return is decided by the tests up to its own.
 use mathlib.Core.Path.{_∙_}
 use native.Mathlib.Omega.{arith}
+use borrow.Author.Needs.{needs}
 use Rattle.words.proofs.Bounded.{told}
 use Rattle.rules.specs.Store.{lent}
 use Rattle.rules.proofs.State.{fits}
 use Rattle.validation.proofs.Covers.{entry-recorded}
 use Rattle.validation.proofs.Surveys.{found-unaccepted, found-astray, found-target, found-idle}
-use borrow.Author.Needs.{needs}
 use Rattle.validation.proofs.target.entry_finding.Statement.{statement}
 use Rattle.validation.proofs.target.entry_finding.Tie as tie
 
@@ -35,14 +35,5 @@ returns-4 c = found-idle _ _ _ _ (told (c .before .before .before .before .befor
 pub entry-finding-spec : {M : Type 1} → statement M
 entry-finding-spec =
     tie.close
-    (tie.spec
-    (λ c κs. search needs)
-    returns
-    base-requires
-    (λ c κs. search needs)
-    is-astray-requires
-    returns-2
-    (λ c κs. search needs)
-    target-finding-requires
-    returns-3
-    returns-4)
+    (tie.spec (λ c κs. search needs) returns base-requires (λ c κs. search needs) is-astray-requires returns-2
+    (λ c κs. search needs) target-finding-requires returns-3 returns-4)

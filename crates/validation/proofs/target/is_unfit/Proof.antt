@@ -1,6 +1,6 @@
 -- The rules' two tests, in their order.
-use Rattle.words.proofs.Bounded.{told}
 use borrow.Author.Needs.{needs}
+use Rattle.words.proofs.Bounded.{told}
 use Rattle.validation.proofs.target.is_unfit.Statement.{statement}
 use Rattle.validation.proofs.target.is_unfit.Tie as tie
 

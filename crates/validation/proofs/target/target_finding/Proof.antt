@@ -1,8 +1,8 @@
 -- Each return is decided by the tests up to its own.
 use mathlib.Core.Path.{refl}
+use borrow.Author.Needs.{needs}
 use Rattle.words.proofs.Bounded.{told}
 use Rattle.validation.specs.Findings.{finding}
-use borrow.Author.Needs.{needs}
 use Rattle.validation.proofs.target.target_finding.Statement.{statement}
 use Rattle.validation.proofs.target.target_finding.Tie as tie
 
@@ -25,11 +25,5 @@ returns-4 c = rw (told (c .before .before .before .before .before .is-unfit .ens
 pub target-finding-spec : {M : Type 1} → statement M
 target-finding-spec =
     tie.close
-    (tie.spec
-    (λ c κs. search needs)
-    returns
-    (λ c κs. search needs)
-    returns-2
-    (λ c κs. search needs)
-    returns-3
+    (tie.spec (λ c κs. search needs) returns (λ c κs. search needs) returns-2 (λ c κs. search needs) returns-3
     returns-4)
