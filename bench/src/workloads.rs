@@ -375,7 +375,7 @@ pub static HASHING_CALLS: [Workload; 3] = [
 ];
 
 /// Tables that a guest writes to make create slow: entries that write beside entries that execute, and many entries that execute the same.
-/// Where 12 is the answer, one block is hashed; else each different one that is executed.
+/// Where 12 is the answer one block is hashed, where 11 none; else each different one that is executed.
 pub static HOSTILE_TABLES: [Workload; 12] = [
     workload("create L2, 1,023 writable, 1 executable", 64, |scene| {
         let word = |scene: &Scene, i| {

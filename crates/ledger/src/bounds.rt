@@ -60,7 +60,7 @@ fn counter_beyond(
 }
 
 // Some counter that it grants is.
-pub fn blocks_beyond(ledger: &[u8], e: Entry, p: u32, m: u32, least: u32, most: u32) -> bool
+fn blocks_beyond(ledger: &[u8], e: Entry, p: u32, m: u32, least: u32, most: u32) -> bool
     requires { ⌜ GrantsRecorded (now ledger) (meaning e) p m ⌝ }
     ensures { λ r. ⌜ r ≡ blocksBeyond least most (now (ledger .entry)) (meaning e) p m ⌝ }
 {

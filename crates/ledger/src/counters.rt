@@ -56,7 +56,7 @@ pub fn grants(counter: Counter, e: Entry) -> bool
     }
 }
 
-// It gives them something that is counted. A fault, as most entries of a table are, is told by one test, and so is a mapping that only reads.
+// It gives them something that is counted. A fault, as most entries of a table are, is told by the first test; write and execute are tested together.
 pub fn grants_some(e: Entry) -> bool
     ensures { λ r. ⌜ r ≡ someCounter (λ c. grants c (meaning e)) ⌝ }
 {

@@ -311,7 +311,7 @@ module _ (d : Change) {v : Level} {memory ledger : List ℕ} {j m : ℕ} (pre : 
   length-is = fits store (base store) (pre .fits) .ledger-length
 
   -- entries that can be counted: those for which there was room, and a part of others
-  pub all-storable : (i : ℕ) → Roomy d (lent memory ledger) i (entryFrom v memory j) → AllStorable d (lent memory ledger) i (entryFrom v memory j)
+  all-storable : (i : ℕ) → Roomy d (lent memory ledger) i (entryFrom v memory j) → AllStorable d (lent memory ledger) i (entryFrom v memory j)
   all-storable i r = roomy-storable d store entry length-is bytes i r
 
   pub fewer-storable : (i k : ℕ) → i ≤ k → AllStorable d (lent memory ledger) k (entryFrom v memory j) → AllStorable d (lent memory ledger) i (entryFrom v memory j)

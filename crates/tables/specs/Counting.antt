@@ -11,12 +11,12 @@ use Rattle.rules.specs.Tables.{gain}
 use Rattle.rules.specs.General.{Change, added, removed, recounted}
 use Rattle.ledger.specs.Counters.{entryBeyond, leastBefore}
 
--- the counters that can be changed by one on the way: a counter that is added to stays within the limit
+-- the greatest value of a counter that can be changed by one on the way: one that is added to stays within the limit, one that is taken from is judged at the end
 abbrev pub mostOf : Change → ℕ
 mostOf added = counterLimit - 1
 mostOf removed = 2 ^ 32 - 1
 
--- no counter has overrun on the way
+-- none that is added to has passed the limit, and none that is taken from has passed 0
 abbrev pub Room : Change → ℕ → ℕ → Type 0
 Room added old k = 0 < k → old + k ≤ counterLimit
 Room removed old k = k ≤ old
@@ -36,12 +36,12 @@ pub record Counted (d : Change) (s : Store) (m : ℕ) (e : ℕ → Entry) (r : �
   pub roomy : Roomy d s r e
   pub stuck : r < m → entryBeyond (leastBefore d) (mostOf d) ledger (e r) ≡ true
 
--- a counter by which the m entries count is above the limit when all are counted: one that was added to is not
+-- what is left to judge when all are counted: nothing of a counter that was added to, and of one that was taken from whether it is above the limit
 abbrev pub endsAbove : Change → List ℕ → ℕ → (ℕ → Entry) → Bool
 endsAbove added ledger m e = false
 endsAbove removed ledger m e = any m (λ i. entryBeyond 0 counterLimit ledger (e i))
 
--- all m entries are counted, and no counter ends above the limit
+-- all m entries are counted, and nothing that is left to judge refuses
 abbrev pub complete : Change → List ℕ → ℕ → (ℕ → Entry) → ℕ → Bool
 complete d ledger m e r = leb m r && not (endsAbove d ledger m e)
 

@@ -118,7 +118,7 @@ fn some_above_limit(level: Level, memory: &[u8], ledger: &[u8], j: usize, m: usi
     false
 }
 
-// The same when all are counted: a counter that was added to is within the limit, or an entry were stuck.
+// What is left to judge when all are counted: a counter that was added to is within the limit, or an entry would have been stuck.
 fn ends_above(
     change: Change,
     level: Level,
@@ -136,7 +136,7 @@ fn ends_above(
     }
 }
 
-// All m entries are counted, and no counter ends above the limit.
+// All m entries are counted, and nothing that is left to judge refuses.
 fn is_complete(
     change: Change,
     level: Level,

@@ -18,7 +18,7 @@ use Rattle.rules.proofs.Gains.{gives-within, gives-at, grants-place, gain-any, 
 use Rattle.rules.proofs.State.{some-block-hit, some-block-found}
 use Rattle.rules.proofs.Walk.{cover-within}
 use Rattle.validation.specs.Marks.{marked, meetsMarked, markedUnsigned}
-use Rattle.validation.specs.Tests.{meets, meetsCount, meetsEntry}
+use Rattle.validation.specs.Tests.{meets, meetsCount}
 use Rattle.validation.proofs.Bits.{none-marked}
 use Rattle.validation.proofs.Covers.{given-inside, misplaced-astray}
 
@@ -50,6 +50,10 @@ module _ (s : Store) (c d : Counter) (en : Entry) where
       let (grant, some) = and-true (grants c en) (someBlock (coverFirst en) (coverBlocks en) isCounted) h in
       let (b, lo, hi, t) = some-block-found (coverFirst en) (coverBlocks en) isCounted some in
       (b, gives-at c en b grant lo hi, ltb-true 0 (counter d s b) t)
+
+-- entry d writes some block that one of the m entries e executes
+meetsEntry : ℕ → (ℕ → Entry) → Entry → Bool
+meetsEntry m e d = grants writable d && someBlock (coverFirst d) (coverBlocks d) (λ b. above (gain m e executable b) 0)
 
 module _ (m : ℕ) (e : ℕ → Entry) where
   abbrev isExecuted : ℕ → Bool

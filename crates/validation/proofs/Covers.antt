@@ -42,10 +42,10 @@ scan-covered ledger k e q recorded = someBlock-records (word ledger basePlace) (
 -- m blocks from p on and n blocks from q on
 module _ (p m q n : ℕ) where
   -- overlap exactly if they have a block in common
-  pub overlap-at : (b : ℕ) → p ≤ b → b < p + m → q ≤ b → b < q + n → overlap p m q n ≡ true
+  overlap-at : (b : ℕ) → p ≤ b → b < p + m → q ≤ b → b < q + n → overlap p m q n ≡ true
   overlap-at b lo hi lo′ hi′ = rw (lt-ltb p (q + n) (omega arith), lt-ltb q (p + m) (omega arith)) refl
 
-  pub overlap-found : 0 < m → 0 < n → overlap p m q n ≡ true → (b : ℕ) × (p ≤ b) × (b < p + m) × (q ≤ b) × (b < q + n)
+  overlap-found : 0 < m → 0 < n → overlap p m q n ≡ true → (b : ℕ) × (p ≤ b) × (b < p + m) × (q ≤ b) × (b < q + n)
   overlap-found some-m some-n o =
       let (under, over) = and-true (ltb p (q + n)) (ltb q (p + m)) o in
       let under = ltb-true p (q + n) under in

@@ -19,7 +19,7 @@ isSet x i = eqb (x / 2 ^ i % 2) 1
 unfoldable pub marked : List ℕ → ℕ → Bool
 marked marks b = isSet (getD marks (b / 8) 0) (b % 8)
 
--- it can have every block of a region
+-- it has a bit for each block of the largest region, and no more
 abbrev pub MarksAll : List ℕ → Type 0
 MarksAll marks = 8 * length marks ≡ mostBlocks
 

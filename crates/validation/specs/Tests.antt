@@ -1,4 +1,4 @@
--- Tests of entries, one by one, by which 11 is looked for in a table. Counters are those of the ledger.
+-- Tests of entries, one by one, by which 10 and 11 are looked for in a table. Counters are those of the ledger.
 use mathlib.Core.Bool.{Bool, _&&_, _||_}
 use mathlib.Core.List.{List}
 use Prim.Native.Nat.{ℕ, _+_}
@@ -7,7 +7,7 @@ use Rattle.words.specs.Bounded.{above}
 use Rattle.entries.specs.Entries.{Entry, Level, entryAt, coverFirst, coverBlocks}
 use Rattle.rules.specs.Create.{unfitLink, unfitWrite}
 use Rattle.rules.specs.Store.{Store, recordWord, Counter, writable, executable, counterWord, someBlock}
-use Rattle.rules.specs.Tables.{grants, gain}
+use Rattle.rules.specs.Tables.{grants}
 use Rattle.ledger.specs.Needs.{recordOf}
 
 -- entry i of the table whose first word is word j
@@ -33,7 +33,3 @@ meetsCount ledger e = meets writable executable ledger e || meets executable wri
 -- m blocks from p on and n blocks from q on, neither empty, have a block in common
 abbrev pub overlap : ℕ → ℕ → ℕ → ℕ → Bool
 overlap p m q n = ltb p (q + n) && ltb q (p + m)
-
--- entry d writes some block that one of the m entries e executes
-unfoldable pub meetsEntry : ℕ → (ℕ → Entry) → Entry → Bool
-meetsEntry m e d = grants writable d && someBlock (coverFirst d) (coverBlocks d) (λ b. above (gain m e executable b) 0)

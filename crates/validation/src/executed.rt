@@ -118,7 +118,7 @@ fn some_marked_unsigned(memory: &[u8], ledger: &[u8], golden: &[u8], marks: &[u8
     false
 }
 
-// No entry meets a count of the ledger: 11 is left to be looked for among the entries.
+// Where no entry meets a count of the ledger, 11 is a matter among the entries.
 pub fn executed_refusal(
     level: Level,
     memory: &[u8],

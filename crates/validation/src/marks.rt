@@ -20,7 +20,7 @@ pub fn is_marked(marks: &[u8], b: usize) -> bool
     (marks[b / BYTE_BITS] >> (b % BYTE_BITS)) % 2 == 1
 }
 
-// A byte with one bit set.
+// The byte x with bit i set too.
 fn with_bit(x: u8, i: usize) -> u8
     requires { ⌜ i < 8 ⌝ }
     ensures { λ r. ⌜ ((k : ℕ) → k < 8 → isSet r k ≡ (isSet x k || eqb i k)) ⌝ }

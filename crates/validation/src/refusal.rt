@@ -1,4 +1,4 @@
-// Refusals 8, 10, 11 and 12 of a table's m entries from word j of the memory on: each over all entries before the next.
+// Refusals 8, 10, 11 and 12 of a table's m entries from word j of the memory on: a lower number of any entry comes before a higher one of any other.
 use crate::executed::executed_refusal;
 use crate::finding::EXECUTES;
 use crate::finding::MEETS_COUNT;

@@ -126,15 +126,6 @@ module _ (p : ℕ → Bool) where
   any-found (suc n) e =
       ⊎-elim (λ (f : any n p ≡ true). let (i, l, t) = any-found n f in (i, omega arith, t)) (λ (t : p n ≡ true). (n, omega arith, t)) (or-cases (any n p) (p n) e)
 
-  -- the first number that has p
-  pub any-first : (n : ℕ) → any n p ≡ true → (i : ℕ) × (i < n) × (p i ≡ true) × (any i p ≡ false)
-  unfolding any
-  any-first zero e = absurd (false≢true e)
-  any-first (suc n) e = go (any n p) refl (any-first n) where
-    go : (t : Bool) → any n p ≡ t → (any n p ≡ true → (i : ℕ) × (i < n) × (p i ≡ true) × (any i p ≡ false)) → (i : ℕ) × (i < suc n) × (p i ≡ true) × (any i p ≡ false)
-    go true f earlier = let (i, l, t, none) = earlier f in (i, omega arith, t, none)
-    go false f earlier = (n, omega arith, rw f at e, f)
-
   -- the turn of a pass that raises a flag at each number that has p
   pub flag-next : {f g : Bool} (n : ℕ) → f ≡ any n p → g ≡ (f || p n) → g ≡ any (n + 1) p
   flag-next n e t = rw (any-more n, ← e) t
