@@ -1,4 +1,5 @@
--- Refusals 11 and 12, block by block, are found entry by entry: a block gains something exactly if some entry gives it.
+-- Refusal 11, block by block, is found entry by entry: a block gains something exactly if some entry gives it. What is left of 11, and 12, is found by the set of
+-- the blocks that the entries execute.
 use mathlib.Core.Bool.{Bool, true, false, not, _&&_, _||_, and-false, or-false, or-assoc}
 use mathlib.Core.List.{List}
 use mathlib.Core.Logic.{_⊎_, inl, inr, ⊎-elim}

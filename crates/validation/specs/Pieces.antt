@@ -8,7 +8,7 @@ use Rattle.rules.specs.Refusals.{Refusal, _if_}
 use Rattle.rules.specs.Store.{Store, blocks, base, someRegionBlock}
 use Rattle.rules.specs.Tables.{astray}
 
--- 11 and 12
+-- the last two: a block would end writable and executable, or an executable block is unsigned
 abbrev pub executedEntries : List ℕ → Store → ℕ → (ℕ → Entry) → List Refusal
 executedEntries golden s m e = 11 if someRegionBlock s (clashes s m e) ∷ 12 if someRegionBlock s (unsigned golden s m e) ∷ []
 

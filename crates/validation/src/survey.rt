@@ -19,7 +19,7 @@ ghost use Rattle.validation.specs.Findings.{entryFinding, greater, newFi
 ghost use Rattle.validation.specs.Needs.{HoldsWords};
 ghost use Rattle.validation.specs.Tests.{entryFrom};
 
-// The greater of what was found before and what is found of one more entry, of a table that is created at a block.
+// The greater of what was found before and what is found of one more entry, of a table that is created at a block. Faults, which fill most tables, are told first.
 fn found_with(level: Level, memory: &[u8], ledger: &[u8], block: u32, found: u32, e: Entry) -> u32
     requires { ⌜ Fits (now memory) (now ledger) ⌝ }
     ensures { λ r. ⌜ r ≡ greater found (entryFinding (levelOf level) (lent (now (memory .entry)) (now (ledger .entry))) block (meaning e)) ⌝ }

@@ -7,7 +7,7 @@ use Kind::*;
 
 const FIRST: u32 = 0x300;
 
-/// A kind of table: the entries of one, where it stands, the region, and the blocks of a target, which are multiples of it.
+/// A kind of table: its entries, where it stands, the blocks of the region and of a target, and the low bits of an entry that reads, writes or executes.
 struct Shape {
     kind: Kind,
     entries: usize,

@@ -1,4 +1,4 @@
--- A fault grants nothing; else one counter after the other.
+-- A fault grants nothing, a link is counted; else write and execute are tested together.
 use mathlib.Core.Path.{refl, _∙_}
 use borrow.Author.Needs.{needs}
 use Rattle.words.proofs.Bounded.{told}

@@ -1,4 +1,4 @@
--- The block is that of its place in the memory.
+-- The bytes of block p are those at place p - first of the memory.
 use borrow.Author.Needs.{needs}
 use Rattle.rules.specs.Signature.{signedBlock}
 use Rattle.ledger.proofs.scan.is_signed_block.Statement.{statement}
