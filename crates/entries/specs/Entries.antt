@@ -1,4 +1,4 @@
--- What a word of a page table means: ARMv7-A short descriptors in the accepted forms ("Entries").
+-- What a word of a table means (RULES: entries, processor).
 use mathlib.Core.Bool.{Bool, true, false, cond, _&&_}
 use mathlib.Core.List.{List}
 use Prim.Native.Nat.{ℕ, _+_, _*_, _/_}
@@ -7,8 +7,8 @@ use Rattle.words.specs.Bounded.{among}
 use Rattle.words.specs.Words.{bits, word}
 use Rattle.entries.specs.Rights.{acceptedAP, rightsOf}
 
--- "An entry is a fault, a link, a section or a page", or not of an accepted form. A link has the 1 KiB place of its L2 table,
--- a section and a page have the number of their first block and their rights.
+-- entries 4: the four kinds of entry, or not accepted. A link has the address of its L2 table / 1,024, a section its first block and its rights,
+-- a page its block and its rights
 pub data Entry : Type 0 where
   fault : Entry
   unaccepted : Entry
@@ -16,49 +16,52 @@ pub data Entry : Type 0 where
   section : ℕ → ℕ → Entry
   page : ℕ → ℕ → Entry
 
--- the two levels of tables
+-- entries 1, entries 2: the two levels of tables
 pub data Level : Type 0 where
   l1 : Level
   l2 : Level
 
--- "An L2 block holds four L2 tables"
+-- entries 2: the L2 tables of an L2 block
 abbrev pub blockTables : ℕ
 blockTables = 4
 
--- "A section counts once on each of its 256 blocks"
+-- entries 7: the blocks of a section
 abbrev pub sectionBlocks : ℕ
 sectionBlocks = 256
 
--- "section: .. AP = bits 15, 11, 10, XN = bit 4"
+-- entries 7: AP of a section, bits 15, 11 and 10
 abbrev pub sectionAP : ℕ → ℕ
 sectionAP w = 4 * bits w 15 1 + bits w 10 2
 
+-- entries 7: XN of a section, bit 4
 abbrev pub sectionXN : ℕ → ℕ
 sectionXN w = bits w 4 1
 
--- "page: .. AP = bits 9, 5, 4, XN = bit 0"
+-- entries 8: AP of a page, bits 9, 5 and 4
 abbrev pub pageAP : ℕ → ℕ
 pageAP w = 4 * bits w 9 1 + bits w 4 2
 
+-- entries 8: XN of a page, bit 0
 abbrev pub pageXN : ℕ → ℕ
 pageXN w = bits w 0 1
 
--- "L1 01: link, bits 9..2 zero"
+-- entries 6, processor 2: the word is a link; among the bits that are 0 is the domain, 8..5
 unfoldable pub isLinkForm : ℕ → Bool
 isLinkForm w = eqb (bits w 0 2) 0b01 && eqb (bits w 2 8) 0
 
--- "L1 10: section, bits 19, 18, 9 and 8..5 zero", and not AP 100
+-- entries 7, processor 2, processor 4: the bits that are 0 in a section; 18 would be a supersection, 8..5 are the domain
 abbrev pub sectionZeros : ℕ → Bool
 sectionZeros w = eqb (bits w 18 2) 0 && eqb (bits w 5 5) 0
 
+-- entries 7, entries 9: the word is an accepted section
 unfoldable pub isSectionForm : ℕ → Bool
 isSectionForm w = eqb (bits w 0 2) 0b10 && sectionZeros w && acceptedAP (sectionAP w)
 
--- "L2 10 or 11: page", and not AP 100
+-- entries 8, entries 9: the word is an accepted page
 unfoldable pub isPageForm : ℕ → Bool
 isPageForm w = eqb (bits w 1 1) 1 && acceptedAP (pageAP w)
 
--- an L1 entry by its word: "bits 1..0 = 00: fault, other bits free"; a link's place is bits 31..10, a section's bits 31..20
+-- entries 4, entries 5, entries 6, entries 7, processor 1: what a word of an L1 table means
 unfoldable pub l1Entry : ℕ → Entry
 l1Entry w =
     cond (eqb (bits w 0 2) 0b00) fault
@@ -66,20 +69,19 @@ l1Entry w =
     (cond (isSectionForm w) (section (sectionBlocks * bits w 20 12) (rightsOf (sectionAP w) (sectionXN w)))
     unaccepted))
 
--- an L2 entry by its word: a page's place is bits 31..12
+-- entries 4, entries 5, entries 8, processor 1, processor 4: what a word of an L2 table means; 01, a large page, is not accepted
 unfoldable pub l2Entry : ℕ → Entry
 l2Entry w =
     cond (eqb (bits w 0 2) 0b00) fault
     (cond (isPageForm w) (page (bits w 12 20) (rightsOf (pageAP w) (pageXN w)))
     unaccepted)
 
--- word j of the memory, read as an entry of a table of this level
+-- entries 1, entries 2, memory 4: word j of the memory, read as an entry of a table of this level; no meaning behind the memory
 unfoldable pub entryAt : Level → List ℕ → ℕ → Entry
 entryAt l1 mem j = l1Entry (word mem (4 * j))
 entryAt l2 mem j = l2Entry (word mem (4 * j))
 
--- the number that the page rights' table holds for an entry: "fault 0; not accepted 7; else 8 + 1 (read) + 2 (write) + 4 (execute)".
--- No L2 entry is a link or a section.
+-- entries 13: the number of an L2 entry in the table of page rights; no meaning for links and sections, which are none
 unfoldable pub codeOf : Entry → ℕ
 codeOf fault = 0
 codeOf unaccepted = 7
@@ -87,10 +89,11 @@ codeOf (link p) = 7
 codeOf (section b r) = 8 + r
 codeOf (page b r) = 8 + r
 
--- "a table of 1,024 small numbers indexed by bits 9..0"
+-- entries 13, entries 14: the number of the table at this index, which is bits 9..0 of an L2 word
 unfoldable pub pageCode : ℕ → ℕ
 pageCode low = codeOf (l2Entry low)
 
+-- entries 5: the entry is a fault
 unfoldable pub isFault : Entry → Bool
 isFault fault = true
 isFault unaccepted = false
@@ -98,6 +101,7 @@ isFault (link p) = false
 isFault (section b r) = false
 isFault (page b r) = false
 
+-- entries 4: the word is not accepted
 unfoldable pub isUnaccepted : Entry → Bool
 isUnaccepted fault = false
 isUnaccepted unaccepted = true
@@ -105,6 +109,7 @@ isUnaccepted (link p) = false
 isUnaccepted (section b r) = false
 isUnaccepted (page b r) = false
 
+-- entries 6: the entry is a link
 unfoldable pub isLink : Entry → Bool
 isLink fault = false
 isLink unaccepted = false
@@ -112,6 +117,7 @@ isLink (link p) = true
 isLink (section b r) = false
 isLink (page b r) = false
 
+-- entries 7: the entry is a section
 unfoldable pub isSection : Entry → Bool
 isSection fault = false
 isSection unaccepted = false
@@ -119,6 +125,7 @@ isSection (link p) = false
 isSection (section b r) = true
 isSection (page b r) = false
 
+-- entries 8: the entry is a page
 unfoldable pub isPage : Entry → Bool
 isPage fault = false
 isPage unaccepted = false
@@ -126,7 +133,7 @@ isPage (link p) = false
 isPage (section b r) = false
 isPage (page b r) = true
 
--- what a section or a page lets the guest do
+-- entries 12: the rights that a section or a page gives, as one number; all else gives none
 unfoldable pub rights : Entry → ℕ
 rights fault = 0
 rights unaccepted = 0
@@ -134,7 +141,7 @@ rights (link p) = 0
 rights (section b r) = r
 rights (page b r) = r
 
--- an entry's place, "wholly in the region" or not: its first block, and how many there are
+-- entries 17: the first block of the place of an entry; no meaning where there is none
 unfoldable pub placeFirst : Entry → ℕ
 placeFirst fault = 0
 placeFirst unaccepted = 0
@@ -142,6 +149,7 @@ placeFirst (link p) = p / blockTables
 placeFirst (section b r) = b
 placeFirst (page b r) = b
 
+-- entries 17: the number of blocks of this place; 0 for a fault, and for what is not accepted
 unfoldable pub placeBlocks : Entry → ℕ
 placeBlocks fault = 0
 placeBlocks unaccepted = 0
@@ -149,13 +157,14 @@ placeBlocks (link p) = 1
 placeBlocks (section b r) = sectionBlocks
 placeBlocks (page b r) = 1
 
--- the blocks that an entry covers, on which it counts: all those of its place
+-- entries 18: the first block that an entry covers; no meaning where it covers none
 unfoldable pub coverFirst : Entry → ℕ
 coverFirst e = placeFirst e
 
+-- entries 18: the number of blocks that it covers
 unfoldable pub coverBlocks : Entry → ℕ
 coverBlocks e = placeBlocks e
 
--- block b is one of them
+-- entries 18: it covers block b
 unfoldable pub covers : Entry → ℕ → Bool
 covers e b = among (coverFirst e) (coverBlocks e) b

@@ -1,4 +1,4 @@
--- What the code's values mean: "where an answer is an enum, a definition gives this paper's number and values for each of the enum's cases".
+-- What the values of the enums in the code mean (RULES: forms, entries).
 use Rattle.entries.specs.declared.entry.Entry as entry
 use Rattle.entries.specs.declared.entry.Entry.the-variants.{Fault, Unaccepted, Link, Section, Page}
 use Rattle.entries.specs.declared.entry.Level as level
@@ -9,7 +9,7 @@ use Rattle.entries.specs.Rights as rights
 use Rattle.entries.specs.Rights.{read, write, execute}
 use Rattle.entries.specs.Entries.{Entry, fault, unaccepted, link, section, page, Level, l1, l2}
 
--- an entry
+-- forms 8, forms 9: the entry that a value stands for
 abbrev pub meaning : entry.Entry → Entry
 meaning Fault = fault
 meaning Unaccepted = unaccepted
@@ -17,12 +17,12 @@ meaning (Link p) = link p
 meaning (Section m) = section (m .first) (m .rights)
 meaning (Page m) = page (m .first) (m .rights)
 
--- the level of a table
+-- forms 9: the level that a value stands for
 abbrev pub levelOf : level.Level → Level
 levelOf L1 = l1
 levelOf L2 = l2
 
--- a right
+-- forms 9: the right that a value stands for
 abbrev pub rightOf : right.Right → rights.Right
 rightOf Read = read
 rightOf Write = write

@@ -1,20 +1,22 @@
--- What the functions ask: a word of the memory to read, a place to write.
+-- What functions require: a word that lies in the memory, a place that has an address (RULES: entries, calls).
 use mathlib.Core.List.{List}
 use mathlib.Core.Path.{_≡_}
 use Prim.Native.Nat.{ℕ, _+_, _*_, _%_, _^_, _≤_, _<_}
 use lib.ListN.{length}
 use Rattle.entries.specs.Entries.{sectionBlocks}
 
--- word j lies in the memory
+-- calls 1, memory 4: word j lies in the lent memory
 abbrev pub HoldsWord : List ℕ → ℕ → Type 0
 HoldsWord mem j = 4 * j + 4 ≤ length mem
 
--- places of 32-bit physical addresses: of a block, of a section by its first block, of an L2 table by its 1 KiB place
+-- entries 8: b can be the block of a page, whose number has 20 bits
 abbrev pub IsBlock : ℕ → Type 0
 IsBlock b = b < 2 ^ 20
 
+-- entries 7: b can be the first block of a section
 abbrev pub IsSectionStart : ℕ → Type 0
 IsSectionStart b = (b < 2 ^ 20) × (b % sectionBlocks ≡ 0)
 
+-- entries 6: p can be the address of an L2 table / 1,024, which has 22 bits
 abbrev pub IsTablePlace : ℕ → Type 0
 IsTablePlace p = p < 2 ^ 22

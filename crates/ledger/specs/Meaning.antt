@@ -1,4 +1,4 @@
--- What the code's values mean.
+-- What the values of the enums in the code mean (RULES: forms).
 use Rattle.rules.specs.Store as store
 use Rattle.rules.specs.Store.{writable, executable, linked}
 use Rattle.rules.specs.General as general
@@ -8,12 +8,12 @@ use Rattle.ledger.specs.declared.counters.Change.the-variants.{Added, Re
 use Rattle.ledger.specs.declared.counters.Counter as counter
 use Rattle.ledger.specs.declared.counters.Counter.the-variants.{Writable, Executable, Linked}
 
--- a change of counters
+-- forms 9: the change of counters that a value stands for
 abbrev pub changeOf : change.Change → general.Change
 changeOf Added = added
 changeOf Removed = removed
 
--- a counter
+-- forms 9: the counter that a value stands for
 abbrev pub counterOf : counter.Counter → store.Counter
 counterOf Writable = writable
 counterOf Executable = executable

@@ -1,4 +1,4 @@
--- The pieces of the rules' lists of refusals that several calls share: where a table lies, and its type.
+-- Pieces of the lists of refusals that several calls share: where a table lies, and its type (RULES: refusal).
 use mathlib.Core.List.{List, [], _∷_}
 use Prim.Native.Nat.{ℕ}
 use Rattle.entries.specs.Entries.{Level}
@@ -7,10 +7,10 @@ use Rattle.rules.specs.Store.{Store}
 use Rattle.rules.specs.Tables.{tableBlocks}
 use Rattle.rules.specs.General.{tableOutside, misaligned, otherType}
 
--- "2; 3 (L1)" of a table at block p
+-- refusal 2, refusal 3: of a table at block p; an L2 block is never refused with 3
 abbrev pub placeRefusals : Level → Store → ℕ → List Refusal
 placeRefusals v s p = 2 if tableOutside v s p ∷ 3 if misaligned p (tableBlocks v) ∷ []
 
--- and "5", unless its blocks are of type t
+-- refusal 2, refusal 3, refusal 5: of a table at block p, whose blocks must be of type t
 abbrev pub tableRefusals : Level → Store → ℕ → ℕ → List Refusal
 tableRefusals v s p t = 2 if tableOutside v s p ∷ 3 if misaligned p (tableBlocks v) ∷ 5 if otherType v s p t ∷ []

@@ -1,4 +1,4 @@
--- What functions require and promise of each other: where the words of a mapping stand, and which blocks it speaks of.
+-- What functions require and promise of each other: where the words of a mapping stand, and on which blocks it counts (RULES: refusal, unmap).
 use mathlib.Core.Bool.{true, false, not}
 use mathlib.Core.Path.{_≡_}
 use Prim.Native.Nat.{ℕ, _+_, _*_, _≤_, _<_}
@@ -16,24 +16,24 @@ pub record Positive (v m r : ℕ) : Type 0 where
   pub positive : 0 < r
   pub below : r < m
 
--- index i lies in a table at block p: 1, 2 and 4 do not apply
+-- refusal 1, refusal 2, refusal 4: none of these applies to index i of a table at block p
 pub record InTable (v : Level) (s : Store) (p i : ℕ) : Type 0 where
   pub fits : misfit s (base s) ≡ false
   pub inside : tableOutside v s p ≡ false
   pub in-table : beyondTable v i ≡ false
 
--- the memory has the m words from index i of the table at block p on
+-- calls 1, refusal 1: 1 does not apply, and the memory has the m words from index i of the table at block p on
 pub record Slot (s : Store) (p i m : ℕ) : Type 0 where
   pub fits : misfit s (base s) ≡ false
   pub low : base s ≤ p
   pub holds : 4 * (wordIndex s p i + m) ≤ length (s .memory)
 
--- the m blocks from t on lie in the region: 1 and 10 do not apply
+-- refusal 1, map 10: 1 does not apply, and the m blocks from t on lie in the region
 pub record InRegion (s : Store) (t m : ℕ) : Type 0 where
   pub fits : misfit s (base s) ≡ false
   pub inside : outside (base s) (blocks s) t m ≡ false
 
--- the first entry e of the words x that a mapping of the form would take speaks for all of them
+-- unmap 8, unmap 10, refusal 13: of the words that a mapping of the form takes, with the entries x, the first entry e speaks for all
 pub record SpeaksFor (f : Form) (e : Entry) (x : ℕ → Entry) : Type 0 where
   pub taken : any (mappingWords f) (λ k. not (takes f (x k))) ≡ not (takes f e)
   pub placed : takes f e ≡ true → (B n : ℕ) → any (mappingWords f) (λ k. astray B n (x k)) ≡ astray B n e

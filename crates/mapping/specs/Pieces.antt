@@ -1,4 +1,4 @@
--- Parts of the rules' lists of refusals that have a function of their own. The calls' promises cite the whole lists.
+-- Pieces of the lists of refusals that have a function of their own; the promises of the calls cite whole lists (RULES: map, link, unmap, refusal).
 use mathlib.Core.Bool.{not}
 use mathlib.Core.List.{List, [], _∷_, _++_}
 use Prim.Native.Nat.{ℕ}
@@ -12,32 +12,32 @@ use Rattle.rules.specs.General.{otherType, executableHolder, tableOutside, misa
 use Rattle.rules.specs.Link.{linkTo}
 use Rattle.rules.specs.Map.{unfitTarget, clashingTarget, unsignedTarget}
 
--- the block that holds an entry
+-- refusal 5, refusal 7: of a table at block p, and of the holder of its entry i
 abbrev pub holderRefusals : Level → Store → ℕ → ℕ → List Refusal
 holderRefusals v s p i = 5 if otherType v s p (typeCode v) ∷ 7 if executableHolder s p i ∷ []
 
--- the words that unmap takes
+-- unmap list: from 1 to 7; an index is a multiple of the words of a mapping, which none breaks while these are one
 abbrev pub slotRefusals : Form → Store → ℕ → ℕ → List Refusal
 slotRefusals f s p i =
     1 if misfit s (base s) ∷ 2 if tableOutside (level f) s p ∷ 3 if misaligned p (tableBlocks (level f)) ∷ 3 if misaligned i (mappingWords f) ∷ 4 if beyondTable (level f) i
     ∷ holderRefusals (level f) s p i
 
--- and the entries x in them
+-- unmap 8, unmap 10, refusal 13: of the entries x, which are to be taken away
 abbrev pub removalRefusals : Form → Store → (ℕ → Entry) → List Refusal
 removalRefusals f s x =
     8 if any (mappingWords f) (λ k. not (takes f (x k))) ∷ 10 if any (mappingWords f) (λ k. astray (base s) (blocks s) (x k)) ∷ 13 if someOverrun removed s (mappingWords f) x ∷ []
 
--- the table to which a link leads
+-- link 10, refusal 13: of table j of block t, to which a link is to lead
 abbrev pub linkTargetRefusals : Store → ℕ → ℕ → List Refusal
 linkTargetRefusals s t j = 10 if tableOutside l2 s t ∷ 10 if neqb (typeOf s t) (typeCode l2) ∷ 13 if someOverrun added s 1 (λ k. linkTo t j) ∷ []
 
--- what a mapping asks of the table, the target's alignment and the index
+-- map list: from 1 to 4; an index is a multiple of the words of a mapping, which none breaks while these are one
 abbrev pub mapPlaceRefusals : Form → List ℕ → Store → ℕ → ℕ → ℕ → List Refusal
 mapPlaceRefusals f golden s p i t =
     1 if misfit s (base s) ∷ imageRefusals golden ++ 2 if tableOutside (level f) s p ∷ 3 if misaligned p (tableBlocks (level f))
     ∷ 3 if misaligned t (targetBlocks f) ∷ 3 if misaligned i (mappingWords f) ∷ 4 if beyondTable (level f) i ∷ []
 
--- and of its target
+-- map 10, map 11, map 12, refusal 13: of a target and rights
 abbrev pub mapTargetRefusals : Form → List ℕ → Store → ℕ → ℕ → ℕ → ℕ → List Refusal
 mapTargetRefusals f golden s p i t r =
     10 if unfitTarget f s p i t r ∷ 11 if clashingTarget f s t r ∷ 12 if unsignedTarget f golden s t r ∷ 13 if someOverrun added s (mappingWords f) (mapping f t r) ∷ []

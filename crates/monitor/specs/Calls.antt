@@ -1,4 +1,4 @@
--- The exports of src/lib.rt as a caller calls them, one after the other ("Lists of steps").
+-- The exports of src/lib.rt as a caller calls them, one after the other (RULES: lists, promises).
 use mathlib.Core.List.{List, [], _∷_}
 use mathlib.Core.Path.{_≡_}
 use Prim.Native.Nat.{ℕ}
@@ -15,8 +15,8 @@ use Rattle.rules.specs.Switch.{switchOutcome}
 use Rattle.rules.specs.Guest.{reads, fetches, writes, guestOutcome}
 use Rattle.rules.specs.Steps.{Step, begins, creates, frees, maps, links, unmaps, switches, accesses}
 
--- one call of an export, lent a golden image and a store, by the clauses of its promise: its step, the store afterwards, its answer, and the byte given,
--- 0 where it gives none
+-- promises 1, lists 13: one call of an export, lent an image and a store, by its contract: its step, the store afterwards, its answer, and the byte
+-- that it gives (0 where it gives none)
 pub data Called (golden : List ℕ) (s : Store) : Step → Store → ℕ → ℕ → Type 0 where
   pagemon-begin : {first answer : ℕ} {after : Store} → answer ≡ beginOutcome s first .answer → after ≡ beginOutcome s first .after
       → Called golden s (begins first) after answer 0
@@ -53,8 +53,8 @@ pub data Called (golden : List ℕ) (s : Store) : Step → Store → ℕ → ℕ
       → answer ≡ guestOutcome (writes byte) s address .answer → after ≡ guestOutcome (writes byte) s address .after
       → Called golden s (accesses (writes byte) address) after answer 0
 
--- "Each step is lent the memory and ledger that the step before it left. Every step that takes a golden image is lent the same one": calls from
--- one store to another, with their answers and the bytes given
+-- lists 3, lists 13: calls in a row from one store to another, each lent what the one before it left, all lent one image, with their answers
+-- and the bytes given
 pub data Calls (golden : List ℕ) : Store → List Step → Store → List ℕ → List ℕ → Type 0 where
   done : {s : Store} → Calls golden s [] s [] []
   call : {s next left : Store} {step : Step} {steps : List Step} {answer byte : ℕ} {answers bytes : List ℕ}

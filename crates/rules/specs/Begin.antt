@@ -1,4 +1,4 @@
--- Begin with B: "All types and counters become 0, active none; memory unchanged" ("Calls").
+-- Begin: a region starts (RULES: begin, refusal).
 use mathlib.Core.List.{List, [], _∷_}
 use Prim.Native.Nat.{ℕ}
 use Rattle.words.specs.Words.{putWord}
@@ -7,18 +7,18 @@ use Rattle.rules.specs.Store.{noTable, Store, basePlace, activePlace, bl
 use Rattle.rules.specs.Outcomes.{Outcome, callOutcome}
 use Rattle.rules.specs.Tables.{typeD}
 
--- "1 (stored B not looked at, B given instead)"
+-- begin 1: refusal 1 for the B that is given, and no other
 abbrev pub beginRefusals : Store → ℕ → List Refusal
 beginRefusals s B = 1 if misfit s B ∷ []
 
--- the ledger with all types and counters 0
+-- begin leaves: the ledger with every type and every counter 0
 abbrev pub cleared : Store → List ℕ
 cleared s = recount (retype (s .ledger) 0 (blocks s) typeD) (blocks s) (λ c b. 0)
 
--- B is stored, active is none
+-- begin leaves: then B stored and no table in use; the memory as it was
 abbrev pub beginAfter : Store → ℕ → Store
 beginAfter s B = record { memory = s .memory; ledger = putWord (putWord (cleared s) basePlace B) activePlace noTable }
 
--- what begin answers and leaves
+-- begin 1, begin leaves: what begin answers and leaves
 unfoldable pub beginOutcome : Store → ℕ → Outcome
 beginOutcome s B = callOutcome (beginRefusals s B) s (beginAfter s B)

@@ -1,4 +1,4 @@
--- Free L1, free L2 of a block: "The type becomes D, the counters lose its entries, the bytes remain" ("Calls").
+-- Free L1 and free L2: a table becomes data (RULES: free, refusal).
 use mathlib.Core.Bool.{Bool}
 use mathlib.Core.List.{List, [], _∷_}
 use Prim.Native.Nat.{ℕ}
@@ -11,12 +11,12 @@ use Rattle.rules.specs.Outcomes.{Outcome, callOutcome}
 use Rattle.rules.specs.Tables.{typeCode, tableBlocks, tableEntries, tableEntry, astray}
 use Rattle.rules.specs.General.{tableOutside, misaligned, otherType, someOverrun, retyped, removed}
 
--- "6 if active (L1) or l above 0 (L2)"
+-- free 6: an L1 table is the active one, or an L2 block's l is above 0
 unfoldable pub inUse : Level → Store → ℕ → Bool
 inUse l1 s p = eqb (active s) p
 inUse l2 s p = above (counter linked s p) 0
 
--- "1; 2; 3 (L1); 5; 6 ..; 8 and 10 for an unaccepted form or a place outside; 13"
+-- free list, free 8, free 10: 8 if an entry is not accepted, 10 if a part of an entry's place lies outside the region
 abbrev pub freeRefusals : Level → Store → ℕ → List Refusal
 freeRefusals v s p =
     1 if misfit s (base s)
@@ -29,10 +29,10 @@ freeRefusals v s p =
     ∷ 13 if someOverrun removed s (tableEntries v) (tableEntry v s p)
     ∷ []
 
--- "The type becomes D, the counters lose its entries, the bytes remain"
+-- free leaves: the blocks are data, and the entries are taken from the counters
 abbrev pub freeAfter : Level → Store → ℕ → Store
 freeAfter = retyped removed
 
--- what free answers and leaves
+-- free list, free leaves: what free answers and leaves
 unfoldable pub freeOutcome : Level → Store → ℕ → Outcome
 freeOutcome v s p = callOutcome (freeRefusals v s p) s (freeAfter v s p)

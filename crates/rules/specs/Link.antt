@@ -1,4 +1,4 @@
--- Link with L1 block, index, target block, table ("Calls").
+-- Link: an L1 entry that leads to an L2 table (RULES: link, refusal).
 use mathlib.Core.List.{List, [], _∷_}
 use Prim.Native.Nat.{ℕ, _+_, _*_}
 use lib.Dec.{leb}
@@ -10,11 +10,11 @@ use Rattle.rules.specs.Outcomes.{Outcome, callOutcome}
 use Rattle.rules.specs.Tables.{typeCode, tableBlocks}
 use Rattle.rules.specs.General.{tableOutside, misaligned, beyondTable, otherType, executableHolder, someOverrun, occupied, entered, added}
 
--- "A link is the table's address + 1": the link to table j of block t
+-- link leaves, entries 6: the link to table j of block t
 abbrev pub linkTo : ℕ → ℕ → Entry
 linkTo t j = link (blockTables * t + j)
 
--- "1; 2; 3; 4 (also table above 3); 5; 7; 8 unless a fault; 10 unless the target is in the region and L2; 13"
+-- link list, link 4, link 10: 4 also if the block has no table j, 10 if the target lies outside the region or is not L2
 abbrev pub linkRefusals : Store → ℕ → ℕ → ℕ → ℕ → List Refusal
 linkRefusals s p i t j =
     1 if misfit s (base s)
@@ -30,6 +30,6 @@ linkRefusals s p i t j =
     ∷ 13 if someOverrun added s 1 (λ k. linkTo t j)
     ∷ []
 
--- what link answers and leaves
+-- link list, link leaves: what link answers and leaves
 unfoldable pub linkOutcome : Store → ℕ → ℕ → ℕ → ℕ → Outcome
 linkOutcome s p i t j = callOutcome (linkRefusals s p i t j) s (entered s p i 1 (λ k. linkTo t j))

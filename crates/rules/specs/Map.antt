@@ -1,4 +1,4 @@
--- Map L1 (section), map L2 (page) with block, index, target, rights ("Calls").
+-- Map L1 and map L2: a section or a page is entered (RULES: map, refusal).
 use mathlib.Core.Bool.{Bool, not, _&&_, _||_}
 use mathlib.Core.List.{List, [], _∷_, _++_}
 use Prim.Native.Nat.{ℕ}
@@ -11,26 +11,25 @@ use Rattle.rules.specs.Tables.{typeD, typeCode, tableBlocks, Form, level
 use Rattle.entries.specs.Rights.{write, execute, allows, unlawfulRights}
 use Rattle.rules.specs.General.{tableOutside, misaligned, beyondTable, otherType, holder, executableHolder, someOverrun, occupied, entered, added}
 
--- "10 if the target isn't wholly in the region, is to be written and not D, or is to be executed and includes the holder"
+-- map 10: a target block lies outside the region, is not D where the rights hold write, or is the holder where they hold execute
 unfoldable pub unfitTarget : Form → Store → ℕ → ℕ → ℕ → ℕ → Bool
 unfitTarget f s p i t r =
     outside (base s) (blocks s) t (targetBlocks f)
     || allows r write && someBlock t (targetBlocks f) (λ b. neqb (typeOf s b) typeD)
     || allows r execute && among t (targetBlocks f) (holder p i)
 
--- "11 if both write and execute, or write onto x above 0, or execute onto w above 0"
+-- map 11: write and execute are asked for at once, or one of them where a target block has a count of the other
 unfoldable pub clashingTarget : Form → Store → ℕ → ℕ → Bool
 clashingTarget f s t r =
     allows r write && allows r execute
     || allows r write && someBlock t (targetBlocks f) (λ b. above (counter executable s b) 0)
     || allows r execute && someBlock t (targetBlocks f) (λ b. above (counter writable s b) 0)
 
--- "12 if a block to be executed is unsigned"
+-- map 12: a target block is to be executed and is not signed
 unfoldable pub unsignedTarget : Form → List ℕ → Store → ℕ → ℕ → Bool
 unsignedTarget f golden s t r = allows r execute && someBlock t (targetBlocks f) (λ b. not (signedBlock golden (base s) (s .memory) b))
 
--- an index is a multiple of the words of a mapping, which none breaks while these are one; else
--- "1; 2; 3 (L1, or section target not a multiple of 256); 4; 5; 7; 8 unless the entry is a fault; 9 ..; 10 ..; 11 ..; 12 ..; 13"
+-- map list, map 3, map 9: 3 if table or target is misaligned (the third, of the index, never applies: a mapping is one word); 9 for unlawful rights
 abbrev pub mapRefusals : Form → List ℕ → Store → ℕ → ℕ → ℕ → ℕ → List Refusal
 mapRefusals f golden s p i t r =
     1 if misfit s (base s)
@@ -50,6 +49,6 @@ mapRefusals f golden s p i t r =
     ∷ 13 if someOverrun added s (mappingWords f) (mapping f t r)
     ∷ []
 
--- what map answers and leaves
+-- map list, map leaves: what map answers and leaves
 unfoldable pub mapOutcome : Form → List ℕ → Store → ℕ → ℕ → ℕ → ℕ → Outcome
 mapOutcome f golden s p i t r = callOutcome (mapRefusals f golden s p i t r) s (entered s p i (mappingWords f) (mapping f t r))

@@ -1,4 +1,4 @@
--- The policies of source document 002 in its own terms: over what a walk grants, from any table to which the hardware can be switched.
+-- What walks grant, from every table to which a switch is accepted (RULES: policies).
 use mathlib.Core.Bool.{true, false}
 use mathlib.Core.List.{List, [], _∷_}
 use mathlib.Core.Logic.{_⊎_, _≢_}
@@ -18,20 +18,19 @@ use Rattle.rules.specs.Guest.{ends, walk, Access, fetches}
 use Rattle.rules.specs.Steps.{Step, frees, maps, unmaps, accesses, run, Told, Root}
 use Rattle.rules.specs.Demand3.{counted, storeAt, toldAt}
 
--- a table to which the hardware can be switched: "the hypervisor allows to select only these memory areas to be used as page tables by the MMU" (section 2.1)
+-- policies reach: an L1 table of the tables told that lies in the region
 abbrev pub Switchable : Told → Store → ℕ → Type 0
 Switchable h s p = Root (h .B) (blocks s) (h .types) p
 
--- the table in use is one of these: "not only the page tables currently in use, but .. all potential page tables" (section 5)
+-- policies 1: the table of the last accepted switch is such a table
 abbrev pub ActiveSwitchable : Told → Store → Type 0
 ActiveSwitchable h s = (p : ℕ) → h .table ≡ some p → Switchable h s p
 
--- a switch to one of these is accepted "always" (table 2), to anything else never
+-- policies 1: a switch to such a table is accepted, and a switch to anything else is not
 abbrev pub SwitchesToTables : Told → Store → Type 0
 SwitchesToTables h s = (p : ℕ) → (switchOutcome s p .answer ≡ 0 → Switchable h s p) × (Switchable h s p → switchOutcome s p .answer ≡ 0)
 
--- some address leads to physical block p with this right, through some such table: "if there exists at least one virtual mapping pointing
--- to the block with a guest writable access permission. Similarly .. executable" (section 3)
+-- policies reach: some address leads to physical block p with this right, through some such table
 pub record Accessible (h : Told) (s : Store) (right : Right) (p : ℕ) : Type 0 where
   pub table : ℕ
   pub address : ℕ
@@ -41,45 +40,43 @@ pub record Accessible (h : Told) (s : Store) (right : Right) (p : ℕ) : Type 0 
   pub walked : walk (h .B) (blocks s) (s .memory) table address ≡ ends level p rights
   pub allowed : allows rights right ≡ true
 
--- W ⊕ X: "preventing physical blocks from being simultaneously writable and executable" (section 3)
+-- policies 2: no block is reached both with write and with execute
 abbrev pub Exclusive : Told → Store → Type 0
 Exclusive h s = (p : ℕ) → Accessible h s write p → Accessible h s execute p → ⊥
 
--- the working set: "∃ pa, va. mmu(σ, PL0, va, ex) = pa ∧ pa ∈ bl" (definition 1), whichever such table is in use
+-- policies reach: block p is reached with execute (source document 002 calls such blocks the working set)
 abbrev pub InWorkingSet : Told → Store → ℕ → Type 0
 InWorkingSet h s p = Accessible h s execute p
 
--- "for all ⟨bl, cnt⟩ ∈ WS(σ), integrity(GI, bl, cnt)" (definition 3), which is "sig(bl, cnt) ∈ GI" (definition 2)
+-- policies 3: a block that is reached with execute is signed
 abbrev pub Integrity : Told → Store → Type 0
 Integrity h s = (p : ℕ) → InWorkingSet h s p → signedBlock (h .golden) (h .B) (s .memory) p ≡ true
 
--- the guest alters writable blocks only: "if content(bl, σ) = content(bl, σ′) then ρwt(bl) > 0" (proposition 2.3, which means ≠)
+-- policies 4: each block of the region has the same bytes afterwards, or is reached with write
 abbrev pub AltersWritableOnly : Told → Store → Store → Type 0
 AltersWritableOnly h s after = (b : ℕ) → b < blocks s → (contents (after .memory) b ≡ contents (s .memory) b) ⊎ Accessible h s write (h .B + b)
 
--- it alters no block that some entry of a table makes executable, the table linked or not: "ex ⇒ content(pb, σ) = content(pb, σ′)" (lemma 2,
--- whose other half, that the tables are as before, is `KeepsTables`)
+-- policies 5: each block whose x, read afresh, is above 0 has the same bytes afterwards, whether a walk leads there or not
 abbrev pub KeepsExecutable : Told → Store → Store → Type 0
 KeepsExecutable h s after = (b : ℕ) → b < blocks s → 0 < counted h s executable b → contents (after .memory) b ≡ contents (s .memory) b
 
--- and so no block of the working set: "the invariant forbids user transitions to change the content of the memory that is executable" (section 5)
+-- policies 5: so has each block that is reached with execute
 abbrev pub KeepsWorkingSet : Told → Store → Store → Type 0
 KeepsWorkingSet h s after = (p : ℕ) → InWorkingSet h s p → contents (after .memory) (p - h .B) ≡ contents (s .memory) (p - h .B)
 
--- it alters no walk: "For every va, PL, acc we have mmu(σ, va, PL, acc) = mmu(σ′, va, PL, acc)" (proposition 2.4)
+-- policies 6: each walk from such a table is the same afterwards
 abbrev pub KeepsWalks : Told → Store → Store → Type 0
 KeepsWalks h s after = (table addr : ℕ) → Switchable h s table → walk (h .B) (blocks s) (after .memory) table addr ≡ walk (h .B) (blocks s) (s .memory) table addr
 
--- a byte fetched is of a block of the working set, which is signed: "the system executable code is a subset of the content of the physical
--- blocks that have at least an executable virtual mapping" (section 2.1)
+-- policies 7: the byte is of a block that is reached with execute, and signed
 pub record FetchedCode (h : Told) (s : Store) (addr byte : ℕ) : Type 0 where
   pub block : ℕ
   pub executes : InWorkingSet h s block
   pub taken : byte ≡ getD (contents (s .memory) (block - h .B)) (addr % blockBytes) 0
   pub signs : signedBlock (h .golden) (h .B) (s .memory) block ≡ true
 
--- entry i of the L2 block p maps the signed block t to be read and written; no other entry makes block t writable (so none makes it
--- executable), and none makes block p executable: "ρex(bl) = 0" (table 2)
+-- policies 9: entry i of the L2 block p is a page of the signed block t with read and write; no other entry makes t writable,
+-- and none makes p executable
 pub record WritableByOneEntry (h : Told) (s : Store) (p i t : ℕ) : Type 0 where
   pub inside : (h .B ≤ p) × (p < h .B + blocks s)
   pub table : h .types p ≡ typeCode l2
@@ -89,50 +86,50 @@ pub record WritableByOneEntry (h : Told) (s : Store) (p i t : ℕ) : Type 0 wher
   pub holder : counted h s executable (p - h .B) ≡ 0
   pub signs : signedBlock (h .golden) (h .B) (s .memory) t ≡ true
 
--- the entry is unmapped and mapped to be read and executed, and back: "(i) to downgrade the existing mapping that conflicts with the suspended
--- access right and (ii) to re-enable the suspended access right" (section 3)
+-- policies 9: the entry is taken away, entered with read and execute, taken away, and entered with read and write
 abbrev pub thereAndBack : ℕ → ℕ → ℕ → List Step
 thereAndBack p i t = unmaps pages p i ∷ maps pages p i t 5 ∷ unmaps pages p i ∷ maps pages p i t 3 ∷ []
 
 -- Lists of steps, from the store s that a begin with B left
 
 module _ (golden : List ℕ) (B : ℕ) (s : Store) (steps : List Step) where
-  -- at the start, after each step, and so at the end: in "a state reachable from the initial state" (proposition 3)
+  -- policies 1, policies 2, policies 3, policies 9: P at the start and after each step
   abbrev pub Always : (Told → Store → Type 0) → Type 0
   Always P = (i : ℕ) → P (toldAt golden B s steps i) (storeAt golden s steps i)
 
-  -- from before to after each guest step: the "user transitions" (section 5)
+  -- policies 4, policies 5, policies 6: P from before to after each guest step
   abbrev pub AtGuestSteps : (Told → Store → Store → Type 0) → Type 0
   AtGuestSteps P = (i : ℕ) (a : Access) (addr : ℕ) → getElem? steps i ≡ some (accesses a addr)
       → P (toldAt golden B s steps i) (storeAt golden s steps i) (storeAt golden s steps (suc i))
 
-  -- wherever the list has this step, its answer is neither 8 nor 10
+  -- policies 8: wherever the list has this step, it is answered neither 8 nor 10
   abbrev pub MeetsSoundEntries : Step → Type 0
   MeetsSoundEntries step = (i k : ℕ) → getElem? steps i ≡ some step → getElem? (run golden s steps .answers) i ≡ some k → (k ≢ 8) × (k ≢ 10)
 
+  -- policies 1, policies 2, policies 3, policies 4, policies 5, policies 6, policies 7, policies 8, policies 9: all of these, of one list
   pub record Policies : Type 0 where
-    -- W ⊕ X, and "No code injection can succeed" (proposition 3)
+    -- policies 2, policies 3: of the blocks that are reached
     pub exclusive : Always Exclusive
     pub integrity : Always Integrity
-    -- the tables of which these speak
+    -- policies 1: of the tables through which they are
     pub active : Always ActiveSwitchable
     pub switches : Always SwitchesToTables
-    -- what the guest's steps leave alone (proposition 2, lemma 2)
+    -- policies 4, policies 5, policies 6: what guest steps leave as it is
     pub alters-writable : AtGuestSteps AltersWritableOnly
     pub keeps-executable : AtGuestSteps KeepsExecutable
     pub keeps-working-set : AtGuestSteps KeepsWorkingSet
     pub keeps-walks : AtGuestSteps KeepsWalks
-    -- what the guest executes
+    -- policies 7: what the guest executes
     pub fetched : (i addr byte : ℕ) → getElem? steps i ≡ some (accesses fetches addr)
         → getElem? (run golden s steps .answers) i ≡ some 0 → getElem? (run golden s steps .bytes) i ≡ some byte
         → FetchedCode (toldAt golden B s steps i) (storeAt golden s steps i) addr byte
-    -- free is validated "always", unmap if "ρex(bl) = 0" (table 2): no entry of a table is held against them
+    -- policies 8: no entry is held against a free or an unmap
     pub free-sound : (v : Level) (p : ℕ) → MeetsSoundEntries (frees v p)
     pub unmap-sound : (f : Form) (p j : ℕ) → MeetsSoundEntries (unmaps f p j)
-    -- the monitor is not merely strict: signed code can be made executable and writable in turn
+    -- policies 9: the four calls are accepted, if the image's length is lawful
     pub in-turn : misfitImage golden ≡ false → (p j t : ℕ) → Always (λ h now. WritableByOneEntry h now p j t → run golden now (thereAndBack p j t) .answers ≡ (0 ∷ 0 ∷ 0 ∷ 0 ∷ []))
 
--- every list that starts from what an accepted begin leaves, as in demand 3
+-- lists 2, lists 3: the policies hold of every list from every accepted begin on, as the claim about lists does
 abbrev pub Policies-hold : Type 0
 Policies-hold =
     (golden : List ℕ) (start : Store) (B : ℕ) → beginOutcome start B .answer ≡ 0

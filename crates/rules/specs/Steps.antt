@@ -1,4 +1,4 @@
--- Lists of steps, and what the steps and their answers tell ("Lists of steps").
+-- Steps, lists of steps, and what steps and answers tell (RULES: lists, policies).
 use mathlib.Core.Bool.{cond}
 use mathlib.Core.List.{List, [], _∷_}
 use mathlib.Core.Option.{Option, none, some}
@@ -18,7 +18,7 @@ use Rattle.rules.specs.Unmap.{unmapOutcome}
 use Rattle.rules.specs.Switch.{switchOutcome}
 use Rattle.rules.specs.Guest.{Access, guestOutcome}
 
--- "A step is one of the calls above, begin included, accepted or refused, with any arguments"
+-- lists 1: one of the fourteen calls, with any arguments; the accesses are the guest steps
 pub data Step : Type 0 where
   begins : ℕ → Step
   creates : Level → ℕ → Step
@@ -29,7 +29,7 @@ pub data Step : Type 0 where
   switches : ℕ → Step
   accesses : Access → ℕ → Step
 
--- one step, lent a golden image and a store
+-- lists 1, lists 3: what comes of a step that is lent this image and this store
 unfoldable pub obey : List ℕ → Store → Step → Outcome
 obey golden s (begins B) = beginOutcome s B
 obey golden s (creates v p) = createOutcome v golden s p
@@ -40,13 +40,13 @@ obey golden s (unmaps f p i) = unmapOutcome f s p i
 obey golden s (switches p) = switchOutcome s p
 obey golden s (accesses a addr) = guestOutcome a s addr
 
--- what a list comes to: the store reached, every answer, and every byte given (0 where a step gives none)
+-- lists 3: what comes of a list: the store reached, every answer, and every byte given (0 where a step gives none)
 pub record Run : Type 0 where
   pub reached : Store
   pub answers : List ℕ
   pub bytes : List ℕ
 
--- "Each step is lent the memory and ledger that the step before it left. Every step that takes a golden image is lent the same one"
+-- lists 3: every step is lent the store that the one before it left, and all are lent one image
 unfoldable pub run : List ℕ → Store → List Step → Run
 run golden s [] = record { reached = s; answers = []; bytes = [] }
 run golden s (step ∷ steps) =
@@ -54,30 +54,29 @@ run golden s (step ∷ steps) =
     let rest = run golden (o .after) steps in
     record { reached = rest .reached; answers = o .answer ∷ rest .answers; bytes = o .byte ∷ rest .bytes }
 
--- what the steps and their answers tell: B, the tables as types of physical blocks, "the L1 table of the last accepted switch since
--- the last accepted begin", and the golden image
+-- lists 4, lists 5, lists 11: what is told: B, the tables as types of physical blocks, the table of the last accepted switch, and the image
 pub record Told : Type 0 where
   pub B : ℕ
   pub types : ℕ → ℕ
   pub table : Option ℕ
   pub golden : List ℕ
 
--- "Tables: none after an accepted begin"
+-- lists 5, lists 11: what an accepted begin tells: no tables, and no switch
 abbrev pub begun : ℕ → List ℕ → Told
 begun B golden = record { B = B; types = λ b. typeD; table = none; golden = golden }
 
--- the m blocks from p on have type t, the others their types
+-- lists 5: the types when the m blocks from p on get type t
 unfoldable pub typed : (ℕ → ℕ) → ℕ → ℕ → ℕ → ℕ → ℕ
 typed types p m t b = cond (among p m b) t (types b)
 
--- an L1 table in the region of n blocks from B on
+-- policies reach, entries 1: an L1 table of the tables told that lies in the region of n blocks from B on
 pub record Root (B n : ℕ) (types : ℕ → ℕ) (p : ℕ) : Type 0 where
   pub low : B ≤ p
   pub high : p + tableBlocks l1 ≤ B + n
   pub aligned : p % tableBlocks l1 ≡ 0
   pub typed : (i : ℕ) → i < tableBlocks l1 → types (p + i) ≡ typeCode l1
 
--- "An accepted create L1 adds its four blocks as L1, an accepted create L2 its block as L2, and an accepted free takes away what it names"
+-- lists 5, lists 11: what is told after an accepted step
 unfoldable pub afterAccepted : Told → Step → Told
 afterAccepted h (begins B) = begun B (h .golden)
 afterAccepted h (creates v p) = record { B = h .B; types = typed (h .types) p (tableBlocks v) (typeCode v); table = h .table; golden = h .golden }
@@ -88,17 +87,17 @@ afterAccepted h (unmaps f p i) = h
 afterAccepted h (switches p) = record { B = h .B; types = h .types; table = some p; golden = h .golden }
 afterAccepted h (accesses a addr) = h
 
--- a step tells something if it is accepted
+-- lists 5: an accepted step tells something, a refused one nothing
 unfoldable pub afterAnswer : ℕ → Told → Step → Told
 afterAnswer zero h step = afterAccepted h step
 afterAnswer (suc k) h step = h
 
--- what the steps of a list tell, with their answers
+-- lists 4, lists 5: what is told after the steps of a list, by their answers
 unfoldable pub history : Told → List Step → List ℕ → Told
 history h [] answers = h
 history h (step ∷ steps) [] = h
 history h (step ∷ steps) (k ∷ answers) = history (afterAnswer k h step) steps answers
 
--- "Reading the tables afresh: .. counted .. over every word that the memory now holds in the tables, with these tables as the typed blocks"
+-- lists 6: w, x or l of physical block p, counted over all words of a memory of n blocks, with the tables told as types
 unfoldable pub afresh : Told → ℕ → List ℕ → Counter → ℕ → ℕ
 afresh h n memory c p = gain (blockWords * n) (λ j. typedEntry (h .types (h .B + j / blockWords)) memory j) c p

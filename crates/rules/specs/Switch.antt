@@ -1,4 +1,4 @@
--- Switch to an L1 block: "Active becomes that block number, nothing else changes" ("Calls").
+-- Switch: another table comes into use (RULES: switch, refusal).
 use mathlib.Core.List.{List, [], _∷_}
 use Prim.Native.Nat.{ℕ}
 use Rattle.words.specs.Words.{putWord}
@@ -9,7 +9,7 @@ use Rattle.rules.specs.Outcomes.{Outcome, callOutcome}
 use Rattle.rules.specs.Tables.{typeCode, tableBlocks}
 use Rattle.rules.specs.General.{tableOutside, misaligned, otherType}
 
--- "1; 2; 3; 5"
+-- switch list: refused unless the block is that of an L1 table in the region
 abbrev pub switchRefusals : Store → ℕ → List Refusal
 switchRefusals s p =
     1 if misfit s (base s)
@@ -18,10 +18,10 @@ switchRefusals s p =
     ∷ 5 if otherType l1 s p (typeCode l1)
     ∷ []
 
--- "Active becomes that block number"
+-- switch leaves: active is this block; the memory as it was
 abbrev pub switchAfter : Store → ℕ → Store
 switchAfter s p = record { memory = s .memory; ledger = putWord (s .ledger) activePlace p }
 
--- what switch answers and leaves
+-- switch list, switch leaves: what switch answers and leaves
 unfoldable pub switchOutcome : Store → ℕ → Outcome
 switchOutcome s p = callOutcome (switchRefusals s p) s (switchAfter s p)

@@ -1,4 +1,4 @@
--- Tables, mappings, and what an entry gives to which blocks ("Memory and ledger", "Entries").
+-- Tables, mappings, and on which blocks an entry counts (RULES: ledger, entries, map, unmap).
 use mathlib.Core.Bool.{Bool, cond, _&&_, _||_}
 use mathlib.Core.List.{List}
 use Prim.Native.Nat.{ℕ, _+_, _-_, _*_}
@@ -8,82 +8,84 @@ use Rattle.entries.specs.Entries.{Entry, fault, section, page, Level, l1, l2, s
 use Rattle.entries.specs.Rights.{write, execute, allows}
 use Rattle.rules.specs.Store.{blockWords, Store, base, Counter, writable, executable, linked, outside}
 
--- "type (0 = D data, 1 = L1, 2 = L2)"
+-- ledger 4: the type of data
 abbrev pub typeD : ℕ
 typeD = 0
 
+-- ledger 4: the types of an L1 table's blocks and of an L2 block
 abbrev pub typeCode : Level → ℕ
 typeCode l1 = 1
 typeCode l2 = 2
 
--- "An L1 table is four blocks, the first a multiple of 4"; an L2 block is one
+-- entries 1, entries 2: the blocks of an L1 table and of an L2 block; the first is a multiple of their number
 abbrev pub tableBlocks : Level → ℕ
 tableBlocks l1 = 4
 tableBlocks l2 = 1
 
--- "with 4,096 words"; "its index 0 to 1,023"
+-- entries 1, entries 2: how many entries there are: one for each word
 abbrev pub tableEntries : Level → ℕ
 tableEntries v = blockWords * tableBlocks v
 
--- "four L2 tables of 256 words"
+-- entries 2: the words of one L2 table
 abbrev pub l2Words : ℕ
 l2Words = 256
 
--- what can be mapped: sections in an L1 table, pages in an L2 block
+-- entries 7, entries 8: what a map enters: a section in an L1 table, or a page in an L2 block
 pub data Form : Type 0 where
   sections : Form
   pages : Form
 
--- the level of the tables in which a form stands
+-- entries 7, entries 8: the level at which a form stands
 abbrev pub level : Form → Level
 level sections = l1
 level pages = l2
 
--- "section target not a multiple of 256": the blocks of a target, and its alignment
+-- map target, map 3: how many blocks a target has; its first has to be a multiple of that
 abbrev pub targetBlocks : Form → ℕ
 targetBlocks sections = sectionBlocks
 targetBlocks pages = 1
 
--- the words of a table that a mapping takes, and the alignment of the first
+-- map leaves, unmap leaves: the words that a mapping takes; its index has to be a multiple of their number, which is 1 and so asks nothing
 abbrev pub mappingWords : Form → ℕ
 mappingWords sections = 1
 mappingWords pages = 1
 
--- the entry of word k of the mapping of these rights onto the target
+-- map leaves: the entry of word k of the mapping of target t with rights r
 abbrev pub mapping : Form → ℕ → ℕ → ℕ → Entry
 mapping sections t r k = section t r
 mapping pages t r k = page t r
 
--- the entries that a form's unmap takes away: a link too where sections stand
+-- unmap 8: the entry is one that this unmap takes: any accepted one, since no L1 entry is a page and no L2 entry a link or a section
 unfoldable pub takes : Form → Entry → Bool
 takes sections e = isFault e || isSection e || isLink e
 takes pages e = isFault e || isPage e
 
--- word j of the memory as an entry of a block of this type: "All entries of blocks typed L1 or L2 are counted", no others
+-- ledger 5: word j of the memory as an entry of a block of type t; a fault, which counts nowhere, if t is no table's
 unfoldable pub typedEntry : ℕ → List ℕ → ℕ → Entry
 typedEntry t memory j = cond (eqb t (typeCode l1)) (entryAt l1 memory j) (cond (eqb t (typeCode l2)) (entryAt l2 memory j) fault)
 
--- the word in which entry i of the table at physical block p stands, and the entry
+-- entries 1, entries 2: which word of the memory entry i of the table at physical block p is; below B this says nothing, and 2 comes first
 abbrev pub wordIndex : Store → ℕ → ℕ → ℕ
 wordIndex s p i = blockWords * (p - base s) + i
 
+-- entries 1, entries 2: entry i of the table at physical block p
 abbrev pub tableEntry : Level → Store → ℕ → ℕ → Entry
 tableEntry v s p i = entryAt v (s .memory) (wordIndex s p i)
 
--- "w those giving the guest write access to this block, x execute access, l the links from L1 entries to this block"
+-- ledger 6: the entry does what c counts: lets the guest write, lets it execute, or links
 unfoldable pub grants : Counter → Entry → Bool
 grants writable e = allows (rights e) write
 grants executable e = allows (rights e) execute
 grants linked e = isLink e
 
--- the entry gives block p what c counts
+-- ledger 6, ledger 7: the entry counts in c of physical block p
 unfoldable pub gives : Counter → Entry → ℕ → Bool
 gives c e p = grants c e && covers e p
 
--- how many of m entries give block p what c counts
+-- ledger 6, ledger 7: how many of the m entries e count in c of physical block p
 unfoldable pub gain : ℕ → (ℕ → Entry) → Counter → ℕ → ℕ
 gain m e c p = count m (λ i. gives c (e i) p)
 
--- the entry has a place, and it is "not wholly in the region"
+-- entries 17, create 10, free 10, unmap 10, guest 24: the entry has a place, and a part of it lies outside the region
 unfoldable pub astray : ℕ → ℕ → Entry → Bool
 astray B n e = above (placeBlocks e) 0 && outside B n (placeFirst e) (placeBlocks e)

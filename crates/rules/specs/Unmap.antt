@@ -1,4 +1,4 @@
--- Unmap L1, unmap L2 with block, index: "The word becomes 0, a fault entry's too" ("Calls").
+-- Unmap L1 and unmap L2: an entry is taken away (RULES: unmap, refusal).
 use mathlib.Core.Bool.{not}
 use mathlib.Core.List.{List, [], _∷_}
 use Prim.Native.Nat.{ℕ, _+_}
@@ -11,8 +11,7 @@ use Rattle.rules.specs.Outcomes.{Outcome, callOutcome}
 use Rattle.rules.specs.Tables.{typeCode, tableBlocks, Form, level, mappingWords, takes, wordIndex, tableEntry, astray}
 use Rattle.rules.specs.General.{tableOutside, misaligned, beyondTable, otherType, executableHolder, someOverrun, recounted, removed}
 
--- an index is a multiple of the words of a mapping, which none breaks while these are one; else
--- "1; 2; 3 (L1); 4; 5; 7; 8 and 10 as in free, for this entry alone; 13"
+-- unmap list, unmap 8, unmap 10: the second 3, of the index, never applies (a mapping is one word); 8 and 10 are about the entry at the index
 abbrev pub unmapRefusals : Form → Store → ℕ → ℕ → List Refusal
 unmapRefusals f s p i =
     1 if misfit s (base s)
@@ -27,11 +26,11 @@ unmapRefusals f s p i =
     ∷ 13 if someOverrun removed s (mappingWords f) (λ k. tableEntry (level f) s p (i + k))
     ∷ []
 
--- "The word becomes 0, a fault entry's too"
+-- unmap leaves: the word is 0, and the entry that it was is taken from the counters
 abbrev pub unmapAfter : Form → Store → ℕ → ℕ → Store
 unmapAfter f s p i =
     record { memory = fill (s .memory) (wordIndex s p i) (mappingWords f) (λ k. wordOf cacheable fault); ledger = recounted removed s (mappingWords f) (λ k. tableEntry (level f) s p (i + k)) }
 
--- what unmap answers and leaves
+-- unmap list, unmap leaves: what unmap answers and leaves
 unfoldable pub unmapOutcome : Form → Store → ℕ → ℕ → Outcome
 unmapOutcome f s p i = callOutcome (unmapRefusals f s p i) s (unmapAfter f s p i)

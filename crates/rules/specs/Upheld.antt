@@ -1,4 +1,4 @@
--- Demand 3 of what a run of a list leaves and hands out ("Lists of steps").
+-- The claim about lists, of what a list of steps leaves and hands out (RULES: lists, runner).
 use mathlib.Core.List.{List, _++_}
 use mathlib.Core.Logic.{_≢_}
 use mathlib.Core.Option.{some}
@@ -10,20 +10,19 @@ use Rattle.rules.specs.Guest.{fetches}
 use Rattle.rules.specs.Steps.{Step, begins, accesses, run, begun, history}
 use Rattle.rules.specs.Demand3.{Safe, Fetched, storeAt, Demand3}
 
--- the claim about the steps that run from store s, which a begin with B left: they leave a store, and hand out answers and bytes
+-- lists 13, runner 3: the claim about steps that run from store s, which a begin with B left, and leave a store and hand out answers and bytes
 pub record Upheld (golden : List ℕ) (B : ℕ) (s : Store) (steps : List Step) (left : Store) (answers bytes : List ℕ) : Type 0 where
-  -- demand 3, at every moment of the list
+  -- lists 13: the claim, at every moment of the list
   pub throughout : Demand3 golden B s steps
-  -- of the memory and ledger left: no block writable and executable, every executable block signed, the ledger's counts true, by the answers handed out
+  -- lists 7, lists 8, lists 9: of the memory and ledger that are left, by the answers handed out
   pub safe : Safe (history (begun B golden) steps answers) left
-  -- of the bytes handed out: each that was fetched comes from a signed block
+  -- lists 11: of the bytes handed out
   pub fetched : (i addr byte : ℕ) → getElem? steps i ≡ some (accesses fetches addr) → getElem? answers i ≡ some 0 → getElem? bytes i ≡ some byte
       → Fetched (history (begun B golden) (take i steps) answers) (storeAt golden s steps i) addr byte
-  -- of the answers handed out: none is 13 or 24
+  -- lists 12: of the answers handed out
   pub never : (i k : ℕ) → getElem? answers i ≡ some k → (k ≢ 13) × (k ≢ 24)
 
--- "A list, perhaps empty, starts from what an accepted begin leaves, whatever memory and ledger it was lent": from every accepted begin on, be it
--- among these steps or among those before, by which a store s was reached
+-- lists 13, runner 3: this from every accepted begin on, among these steps or among those before, by which store s was reached under the same image
 abbrev pub Upholds : List ℕ → Store → List Step → Store → List ℕ → List ℕ → Type 0
 Upholds golden s steps left answers bytes =
     (start : Store) (before : List Step) → s ≡ run golden start before .reached

@@ -1,4 +1,4 @@
--- What the code's steps and records mean.
+-- What the values of the enums in the code mean: a step, and what a record holds (RULES: forms, lists, runner).
 use mathlib.Core.Option.{Option, none, some}
 use Rattle.entries.specs.Entries.{l1, l2}
 use Rattle.rules.specs.Tables.{sections, pages}
@@ -10,6 +10,7 @@ use Rattle.steps.specs.declared.step.Step.the-variants.{Begin, CreateL1,
 use Rattle.steps.specs.declared.records.Record as lists
 use Rattle.steps.specs.declared.records.Record.the-variants.{Holds, Bad}
 
+-- forms 9, lists 1: the step that a value stands for
 abbrev pub meaning : step.Step → steps.Step
 meaning (Begin first) = begins first
 meaning (CreateL1 block) = creates l1 block
@@ -26,6 +27,7 @@ meaning (Read address) = accesses reads address
 meaning (Write address byte) = accesses (writes byte) address
 meaning (Fetch address) = accesses fetches address
 
+-- forms 9, runner 1: the step that a record holds, if any
 abbrev pub held : lists.Record → Option steps.Step
 held (Holds s) = some (meaning s)
 held Bad = none

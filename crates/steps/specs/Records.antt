@@ -1,4 +1,4 @@
--- Records and the steps that they hold ("The program").
+-- Records, and the steps that they hold (RULES: program, runner).
 use mathlib.Core.Bool.{Bool, cond, _||_}
 use mathlib.Core.List.{List, [], _∷_}
 use mathlib.Core.Option.{Option, none, some}
@@ -12,8 +12,7 @@ use Rattle.rules.specs.Tables.{sections, pages}
 use Rattle.rules.specs.Guest.{reads, writes, fetches}
 use Rattle.rules.specs.Steps.{Step, begins, creates, frees, maps, links, unmaps, switches, accesses, Run, run}
 
--- "Call bytes: 1 begin, 2 create L1, 3 create L2, 4 free L1, 5 free L2, 6 map L1, 7 map L2, 8 link, 9 unmap L1, 10 unmap L2, 11 switch,
--- 12 read, 13 write, 14 fetch", each with its arguments "in the order named above": what these words ask, by call byte
+-- program 2, program 3: the step of each call byte, from 0 on, with these four words as its arguments; 0 has none
 abbrev pub calls : ℕ → ℕ → ℕ → ℕ → List (Option Step)
 calls a b c d =
     none
@@ -33,52 +32,53 @@ calls a b c d =
     ∷ some (accesses fetches a)
     ∷ []
 
--- none for "a call byte not listed"
+-- program 3: the step of a call byte and four words; none for a call byte that is not in the table
 unfoldable pub stepOf : ℕ → ℕ → ℕ → ℕ → ℕ → Option Step
 stepOf call a b c d = getD (calls a b c d) call none
 
--- "Standard input is records of 19 bytes"
+-- program 2: the bytes of a record
 abbrev pub recordBytes : ℕ
 recordBytes = 19
 
--- "a short record", at place p
+-- program 5: the record at place p is cut short; so too where the records end and none begins
 abbrev pub short : List ℕ → ℕ → Bool
 short records p = above (p + recordBytes) (length records)
 
--- "A wrong mark"
+-- program 2, program 5: the record at place p has another mark
 abbrev pub unmarked : List ℕ → ℕ → Bool
 unmarked records p = neqb (getD records p 0) 0x50 || neqb (getD records (p + 1) 0) 0x54
 
--- the call byte's place in a record: "mark 50 54 (hexadecimal), call byte, four argument words"
+-- program 2: the place of the call byte in a record
 abbrev pub callPlace : ℕ
 callPlace = 2
 
+-- program 2: the step of the record at place p, whatever its mark; no meaning if it is cut short
 abbrev pub wholeStep : List ℕ → ℕ → Option Step
 wholeStep records p =
     stepOf (getD records (p + callPlace) 0) (word records (p + 3)) (word records (p + 7)) (word records (p + 11)) (word records (p + 15))
 
--- the step that the record at place p holds, if any
+-- runner 1, program 5: the step that the record at place p holds, if any
 unfoldable pub stepAt : List ℕ → ℕ → Option Step
 stepAt records p = cond (short records p || unmarked records p) none (wholeStep records p)
 
--- a step in front of a list, or where there is none, the list's end
+-- runner 1: a step in front of a list; where there is none, the list ends
 unfoldable pub andThen : Option Step → List Step → List Step
 andThen none rest = []
 andThen (some step) rest = step ∷ rest
 
--- the steps of the records from place p on, at most m, up to the first record that holds none
+-- runner 1: the steps of the records from place p on, no more than asked for, up to the first record that holds none
 unfoldable pub stepsFrom : List ℕ → ℕ → ℕ → List Step
 stepsFrom records p zero = []
 stepsFrom records p (suc m) = andThen (stepAt records p) (stepsFrom records (p + recordBytes) m)
 
--- the steps of a list of records, at most m
+-- runner 1: the steps of the records from the first on, at most m
 abbrev pub stepsIn : List ℕ → ℕ → List Step
 stepsIn records m = stepsFrom records 0 m
 
--- there is room for as many steps as there are places for their answers and for their bytes
+-- runner 1: how many steps have a place for the answer and one for the byte
 abbrev pub room : List ℕ → List ℕ → ℕ
 room answers bytes = min (length answers) (length bytes)
 
--- what the records come to for which there is room
+-- runner 2: what the list of the steps comes to for which there is room
 abbrev pub ran : List ℕ → Store → List ℕ → List ℕ → List ℕ → Run
 ran golden s records answers bytes = run golden s (stepsIn records (room answers bytes))

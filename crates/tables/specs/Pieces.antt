@@ -1,4 +1,4 @@
--- The parts of the rules' lists of refusals that are judged before the ledger is touched: all but 13. The calls' promises cite the whole lists.
+-- The lists of refusals without 13, judged before the ledger is touched; the promises of the calls cite whole lists (RULES: create, free).
 use mathlib.Core.List.{List, _∷_, _++_}
 use Prim.Native.Nat.{ℕ}
 use Rattle.entries.specs.Entries.{Level}
@@ -11,14 +11,14 @@ use Rattle.rules.specs.Free.{inUse}
 use Rattle.ledger.specs.Pieces.{tableRefusals}
 use Rattle.validation.specs.Pieces.{newEntries, oldEntries}
 
--- of create
+-- create list: all but 13
 abbrev pub createJudged : Level → List ℕ → Store → ℕ → List Refusal
 createJudged v golden s p =
     1 if misfit s (base s) ∷ imageRefusals golden
     ++ tableRefusals v s p typeD
     ++ 6 if someCount v s p ∷ newEntries v golden s p (tableEntries v) (tableEntry v s p)
 
--- of free
+-- free list: all but 13
 abbrev pub freeJudged : Level → Store → ℕ → List Refusal
 freeJudged v s p =
     1 if misfit s (base s) ∷ tableRefusals v s p (typeCode v)

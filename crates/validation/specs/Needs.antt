@@ -1,4 +1,4 @@
--- What functions require: words of the memory, records of the ledger, and entries whose places are in the region.
+-- What functions require: words of the memory, records of the ledger, entries with their places in the region (RULES: calls, ledger, create, free).
 use mathlib.Core.Bool.{false}
 use mathlib.Core.List.{List}
 use mathlib.Core.Path.{_≡_}
@@ -11,27 +11,27 @@ use Rattle.rules.specs.Tables.{astray}
 use Rattle.ledger.specs.Needs.{InLedger, Fits, recordOf}
 use Rattle.validation.specs.Tests.{entryFrom}
 
--- the m words from word j on lie in the memory
+-- calls 1: the m words from word j on lie in the memory
 abbrev pub HoldsWords : List ℕ → ℕ → ℕ → Type 0
 HoldsWords memory j m = 4 * (j + m) ≤ length memory
 
--- the ledger has a record for each block that the entry covers
+-- ledger 1: the ledger has a record for each block that the entry covers
 abbrev pub CoverRecorded : List ℕ → Entry → Type 0
 CoverRecorded ledger e = (word ledger basePlace ≤ coverFirst e) × InLedger ledger (recordOf ledger (coverFirst e) + coverBlocks e)
 
--- 10 does not apply to the entry's place
+-- create 10, free 10: the place of the entry lies in the region, if it has one
 abbrev pub InRegion : List ℕ → List ℕ → Entry → Type 0
 InRegion memory ledger e = astray (base (lent memory ledger)) (blocks (lent memory ledger)) e ≡ false
 
--- nor does 1 apply
+-- refusal 1, create 10, free 10: 1 does not apply, and the place of the entry lies in the region, if it has one
 abbrev pub Placed : List ℕ → List ℕ → Entry → Type 0
 Placed memory ledger e = Fits memory ledger × InRegion memory ledger e
 
--- 10 does not apply to the places of the m entries from word j on
+-- create 10, free 10: the places of the m entries from word j on lie in the region
 abbrev pub AllPlaced : Level → List ℕ → List ℕ → ℕ → ℕ → Type 0
 AllPlaced v memory ledger j m = (i : ℕ) → i < m → InRegion memory ledger (entryFrom v memory j i)
 
--- nor does 1 apply, and these entries can be read
+-- refusal 1, create 10, free 10: 1 does not apply, and the m entries from word j on can be read and have their places in the region
 pub record TablePlaced (v : Level) (memory ledger : List ℕ) (j m : ℕ) : Type 0 where
   pub fits : Fits memory ledger
   pub holds : HoldsWords memory j m

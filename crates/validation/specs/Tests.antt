@@ -1,4 +1,4 @@
--- Tests of entries, one by one, by which 10 and 11 are looked for in a table. Counters are those of the ledger.
+-- Tests of entries, one by one, by which 10 and 11 of create are looked for; counters are those of the ledger (RULES: create).
 use mathlib.Core.Bool.{Bool, _&&_, _||_}
 use mathlib.Core.List.{List}
 use Prim.Native.Nat.{ℕ, _+_}
@@ -10,26 +10,27 @@ use Rattle.rules.specs.Store.{Store, recordWord, Counter, writable, executable,
 use Rattle.rules.specs.Tables.{grants}
 use Rattle.ledger.specs.Needs.{recordOf}
 
--- entry i of the table whose first word is word j
+-- entry i of the table whose first word is word j of the memory
 abbrev pub entryFrom : Level → List ℕ → ℕ → ℕ → Entry
 entryFrom v memory j i = entryAt v memory (j + i)
 
--- word k of the record of some block that the entry covers has q
+-- word k of the record of some block that the entry covers has q; no meaning for blocks below B
 abbrev pub someCovered : List ℕ → ℕ → Entry → (ℕ → Bool) → Bool
 someCovered ledger k e q = someBlock (coverFirst e) (coverBlocks e) (λ b. q (recordWord ledger k (recordOf ledger b)))
 
--- the entry's target is unfit for a table that is created at block p
+-- create 10: the entry links to a block that is not L2, or gives write to one that is not D or is of the table created at block p;
+-- no meaning if its place lies outside the region
 abbrev pub unfit : Level → Store → ℕ → Entry → Bool
 unfit v s p e = unfitLink s e || unfitWrite v s p e
 
--- the entry gives c to some block on which d is counted
+-- create 11: the entry gives c to some block on which d is counted
 unfoldable pub meets : Counter → Counter → List ℕ → Entry → Bool
 meets c d ledger e = grants c e && someCovered ledger (counterWord d) e (λ x. above x 0)
 
--- it makes a block writable that is executable, or the other way round
+-- create 11: the entry gives write to a block with x above 0, or execute to one with w above 0
 unfoldable pub meetsCount : List ℕ → Entry → Bool
 meetsCount ledger e = meets writable executable ledger e || meets executable writable ledger e
 
--- m blocks from p on and n blocks from q on, neither empty, have a block in common
+-- create 10: the m blocks from p on and the n from q on have one in common; no meaning if m or n is 0
 abbrev pub overlap : ℕ → ℕ → ℕ → ℕ → Bool
 overlap p m q n = ltb p (q + n) && ltb q (p + m)

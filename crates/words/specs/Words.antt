@@ -1,4 +1,4 @@
--- Words of 32 bits in a list of bytes, little-endian ("Memory and ledger").
+-- Words of 32 bits in a list of bytes (RULES: memory).
 use mathlib.Core.List.{List}
 use Prim.Native.Nat.{ℕ, _+_, _*_, _/_, _%_, _^_}
 use lib.ListN.{getD, set}
@@ -7,11 +7,11 @@ use lib.ListN.{getD, set}
 abbrev pub bits : ℕ → ℕ → ℕ → ℕ
 bits v lo n = v / 2 ^ lo % 2 ^ n
 
--- the word whose four bytes stand from place a on
+-- memory 4: the word whose four bytes stand from place a on; a byte behind the end of the list counts as 0
 unfoldable pub word : List ℕ → ℕ → ℕ
 word xs a = getD xs a 0 + 2 ^ 8 * getD xs (a + 1) 0 + 2 ^ 16 * getD xs (a + 2) 0 + 2 ^ 24 * getD xs (a + 3) 0
 
--- xs with the word v stored from place a on
+-- memory 4: xs with the low 32 bits of v stored from place a on; a byte behind the end of the list is not stored
 unfoldable pub putWord : List ℕ → ℕ → ℕ → List ℕ
 putWord xs a v =
     set (set (set (set xs a (bits v 0 8)) (a + 1) (bits v 8 8)) (a + 2) (bits v 16 8)) (a + 3) (bits v 24 8)
