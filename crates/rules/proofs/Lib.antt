@@ -31,4 +31,6 @@ pub mod Witnesses
 pub mod TableWitnesses
 pub mod Blank
 pub mod Fetching
+pub mod Acceptance
 pub mod Edges
+pub mod Ascending

@@ -52,7 +52,7 @@ module _ (t r k : ℕ) where
   mapping-encodable sections l a g = a-section (l, a) g
   mapping-encodable pages l a g = a-page l g
 
-  mapping-grants : (f : Form) → (grants writable (mapping f t r k) ≡ allows r rights.write) × (grants executable (mapping f t r k) ≡ allows r rights.execute) × (grants linked (mapping f t r k) ≡ false)
+  pub mapping-grants : (f : Form) → (grants writable (mapping f t r k) ≡ allows r rights.write) × (grants executable (mapping f t r k) ≡ allows r rights.execute) × (grants linked (mapping f t r k) ≡ false)
   unfolding grants rightsOfEntry isLink
   mapping-grants sections = (refl, refl, refl)
   mapping-grants pages = (refl, refl, refl)

@@ -17,10 +17,10 @@ use Rattle.rules.specs.Store.{blockBytes, ledgerHeadBytes, ledgerRecordB
 use Rattle.rules.specs.Signature.{signedBlock}
 use Rattle.rules.specs.Tables.{typeCode}
 
-pub zeros : ℕ → List ℕ
+unfoldable pub zeros : ℕ → List ℕ
 zeros n = replicate n 0
 
-length-zeros : (n : ℕ) → length (zeros n) ≡ n
+pub length-zeros : (n : ℕ) → length (zeros n) ≡ n
 unfolding zeros
 length-zeros n = length-replicate {A = ℕ} n 0
 

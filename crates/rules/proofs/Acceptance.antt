@@ -1,0 +1,171 @@
+-- A mapping of rights 0 or 1, a link and an unmap are accepted wherever table, holder, entry and target are right: each test of their lists is passed
+-- by one of these. At an index beyond the table they are answered with 4.
+use mathlib.Core.Bool.{true, false, not, false≢true}
+use mathlib.Core.List.{List}
+use mathlib.Core.Path.{_≡_, refl, _∙_, ap}
+use Prim.Native.Nat.{ℕ, zero, suc, _+_, _%_, _<_, _≤_}
+use native.Mathlib.Omega.{arith}
+use borrow.Author.Tests.{le-ltb, lt-leb, le-leb, ltb-true}
+use Rattle.words.specs.Bounded.{above, neqb}
+use Rattle.words.proofs.Bounded.{any-avoids, false-unless, and-true, same}
+use Rattle.signature.specs.Signed.{misfitImage}
+use Rattle.entries.specs.Entries.{Entry, fault, Level, l1, l2, blockTables, isFault, isLink, rights, placeFirst, coverFirst, placeBlocks, coverBlocks}
+use Rattle.entries.specs.Rights.{write, execute, allows, unlawfulRights}
+use Rattle.rules.specs.Store.{counterLimit, Store, blocks, base, Counter, writable, executable, linked, someCounter, typeOf, counter, someBlock, misfit}
+use Rattle.rules.specs.Tables.{typeCode, tableBlocks, tableEntries, Form, sections, pages, level, targetBlocks, mappingWords, mapping, takes, tableEntry, grants, gives, gain, astray}
+use Rattle.rules.specs.General.{tableOutside, misaligned, otherType, holder, executableHolder, Change, added, removed, endValue, endsBelow, overruns, someOverrun, occupied}
+use Rattle.rules.specs.Map.{unfitTarget, clashingTarget, unsignedTarget, mapOutcome}
+use Rattle.rules.specs.Link.{linkTo, linkOutcome}
+use Rattle.rules.specs.Unmap.{unmapOutcome}
+use Rattle.rules.proofs.Refusals.{done, step, accepted, here, past, decides}
+use Rattle.rules.proofs.Gains.{gives-fault, gives-within, gain-most, gain-none, gain-found}
+use Rattle.rules.proofs.State.{inside}
+use Rattle.rules.proofs.Mapping.{mapping-grants}
+use Rattle.rules.proofs.Passing.{settle-answer}
+
+-- What map, link and unmap find
+
+-- the blocks from p on could be a table of this level: 1, 2 and 3 hold nothing against them
+pub record Placed (v : Level) (s : Store) (p : ℕ) : Type 0 where
+  pub fits : misfit s (base s) ≡ false
+  pub low : base s ≤ p
+  pub high : p + tableBlocks v ≤ base s + blocks s
+  pub aligned : p % tableBlocks v ≡ 0
+
+-- they are one, and a mapping of this form finds faults from index i on, in a block that cannot be executed
+pub record Vacant (f : Form) (s : Store) (p i : ℕ) : Type 0 where
+  pub placed : Placed (level f) s p
+  pub typed : (k : ℕ) → k < tableBlocks (level f) → typeOf s (p + k) ≡ typeCode (level f)
+  pub unexecuted : counter executable s (holder p i) ≡ 0
+  pub empty : (k : ℕ) → k < mappingWords f → tableEntry (level f) s p (i + k) ≡ fault
+
+-- rights 0 or 1 are asked for, of a target in the region, with an image of a length that fits
+pub record ReadTarget (f : Form) (golden : List ℕ) (s : Store) (t r : ℕ) : Type 0 where
+  pub image : misfitImage golden ≡ false
+  pub low : base s ≤ t
+  pub high : t + targetBlocks f ≤ base s + blocks s
+  pub aligned : t % targetBlocks f ≡ 0
+  pub reads : r ≤ 1
+
+-- an L2 block in the region, whose table j may be linked to once more
+pub record LinkTarget (s : Store) (t j : ℕ) : Type 0 where
+  pub low : base s ≤ t
+  pub high : t < base s + blocks s
+  pub type : typeOf s t ≡ typeCode l2
+  pub room : counter linked s t < counterLimit
+  pub table : j < blockTables
+
+module _ {v : Level} {s : Store} {p : ℕ} (at : Placed v s p) where
+  in-region : tableOutside v s p ≡ false
+  in-region = inside (base s) (blocks s) p (tableBlocks v) (at .low) (at .high)
+
+  at-multiple : misaligned p (tableBlocks v) ≡ false
+  at-multiple = same (p % tableBlocks v) 0 (at .aligned)
+
+module _ {f : Form} {s : Store} {p i : ℕ} (room : Vacant f s p i) where
+  right-types : otherType (level f) s p (typeCode (level f)) ≡ false
+  unfolding someBlock
+  right-types = any-avoids (λ k. neqb (typeOf s (p + k)) (typeCode (level f))) (tableBlocks (level f)) (λ k l. same _ _ (room .typed k l))
+
+  no-executable : executableHolder s p i ≡ false
+  no-executable = le-ltb 0 (counter executable s (holder p i)) (omega (arith, room .unexecuted))
+
+  unoccupied : occupied (level f) s p i (mappingWords f) ≡ false
+  unfolding isFault
+  unoccupied = any-avoids (λ k. not (isFault (tableEntry (level f) s p (i + k)))) (mappingWords f) (λ k l. rw (room .empty k l) refl)
+
+-- 13 does not apply if no counter passes its bounds
+none-overruns : (d : Change) (s : Store) (m : ℕ) (e : ℕ → Entry) → ((c : Counter) (b : ℕ) → overruns d (counter c s b) (gain m e c b) ≡ false) → someOverrun d s m e ≡ false
+unfolding someOverrun someBlock someCounter
+none-overruns d s m e one =
+    any-avoids (λ k. someCounter (λ c. overruns d (counter c s (base s + k)) (gain m e c (base s + k)))) (blocks s) (λ k l. rw (one writable _, one executable _, one linked _) refl)
+
+-- and none does where the entries give nothing
+nothing-gained : (d : Change) (s : Store) (m : ℕ) (e : ℕ → Entry) → ((c : Counter) (k b : ℕ) → k < m → gives c (e k) b ≡ false) → someOverrun d s m e ≡ false
+unfolding overruns
+nothing-gained d s m e none = none-overruns d s m e (λ c b. rw (gain-none m e c b (λ k l. none c k b l)) refl)
+
+-- rights 0 and 1 are lawful, and neither write nor execute
+reads-only : (r : ℕ) → r ≤ 1 → (unlawfulRights r ≡ false) × (allows r write ≡ false) × (allows r execute ≡ false)
+unfolding unlawfulRights allows
+reads-only zero l = (refl, refl, refl)
+reads-only (suc zero) l = (refl, refl, refl)
+reads-only (suc (suc r)) l = let z : ⊥ = omega arith in absurd z
+
+reads-give-nothing : (f : Form) (t r : ℕ) → r ≤ 1 → (c : Counter) (k b : ℕ) → gives c (mapping f t r k) b ≡ false
+unfolding gives
+reads-give-nothing f t r l writable k b = rw (mapping-grants t r k f .0, reads-only r l .1) refl
+reads-give-nothing f t r l executable k b = rw (mapping-grants t r k f .1, reads-only r l .2) refl
+reads-give-nothing f t r l linked k b = rw (mapping-grants t r k f .2) refl
+
+takes-fault : (f : Form) → takes f fault ≡ true
+unfolding takes isFault
+takes-fault sections = refl
+takes-fault pages = refl
+
+-- What they answer at an index in the table, and at one beyond it
+
+-- the index is a multiple of the words of a mapping
+module _ (f : Form) {s : Store} {p : ℕ} (i : ℕ) (whole : i % mappingWords f ≡ 0) where
+  -- rights 0 or 1 are granted wherever table, holder, entry and target are right
+  pub map-accepted : {golden : List ℕ} {t r : ℕ} → Vacant f s p i → i < tableEntries (level f) → ReadTarget f golden s t r → mapOutcome f golden s p i t r .answer ≡ 0
+  unfolding mapOutcome unfitTarget clashingTarget unsignedTarget
+  map-accepted {golden} {t} {r} room l target =
+      let at = room .placed in
+      let (lawful, no-write, no-execute) = reads-only r (target .reads) in
+      settle-answer _ _ _
+      ∙ accepted (step (at .fits) (step (target .image) (step (in-region at) (step (at-multiple at) (step (same _ _ (target .aligned)) (step (same _ _ whole) (step (lt-leb (tableEntries (level f)) i l)
+      (step (right-types room) (step (no-executable room) (step (unoccupied room) (step lawful
+      (step (rw (inside (base s) (blocks s) t (targetBlocks f) (target .low) (target .high), no-write, no-execute) refl)
+      (step (rw (no-write, no-execute) refl) (step (rw no-execute refl) (step (nothing-gained added s _ _ (λ c k b _. reads-give-nothing f t r (target .reads) c k b)) done)))))))))))))))
+
+  pub map-beyond : (golden : List ℕ) (t r : ℕ) → Placed (level f) s p → misfitImage golden ≡ false → t % targetBlocks f ≡ 0 → tableEntries (level f) ≤ i
+      → mapOutcome f golden s p i t r .answer ≡ 4
+  unfolding mapOutcome
+  map-beyond golden t r at image target-aligned h =
+      settle-answer _ _ _ ∙ decides (past (at .fits) (past image (past (in-region at) (past (at-multiple at) (past (same _ _ target-aligned) (past (same _ _ whole) (here (le-leb (tableEntries (level f)) i h))))))))
+
+  pub unmap-accepted : Vacant f s p i → i < tableEntries (level f) → unmapOutcome f s p i .answer ≡ 0
+  unfolding unmapOutcome astray placeBlocks
+  unmap-accepted room l =
+      let at = room .placed in
+      settle-answer _ _ _ ∙ accepted (step (at .fits) (step (in-region at) (step (at-multiple at) (step (same _ _ whole) (step (lt-leb (tableEntries (level f)) i l)
+      (step (right-types room) (step (no-executable room)
+      (step (any-avoids (λ k. not (takes f (tableEntry (level f) s p (i + k)))) (mappingWords f) (λ k m. rw (room .empty k m) (ap not (takes-fault f))))
+      (step (any-avoids (λ k. astray (base s) (blocks s) (tableEntry (level f) s p (i + k))) (mappingWords f) (λ k m. rw (room .empty k m) refl))
+      (step (nothing-gained removed s (mappingWords f) (λ k. tableEntry (level f) s p (i + k)) (λ c k b m. rw (room .empty k m) (gives-fault c b))) done))))))))))
+
+  pub unmap-beyond : Placed (level f) s p → tableEntries (level f) ≤ i → unmapOutcome f s p i .answer ≡ 4
+  unfolding unmapOutcome
+  unmap-beyond at h =
+      settle-answer _ _ _ ∙ decides (past (at .fits) (past (in-region at) (past (at-multiple at) (past (same _ _ whole) (here (le-leb (tableEntries (level f)) i h))))))
+
+-- a link counts on its target alone, which has room
+link-counts : (s : Store) (t j : ℕ) → LinkTarget s t j → (c : Counter) (b : ℕ) → overruns added (counter c s b) (gain 1 (λ k. linkTo t j) c b) ≡ false
+unfolding overruns endsBelow endValue grants allows rights coverFirst placeFirst coverBlocks placeBlocks
+link-counts s t j target c b =
+    let k = gain 1 (λ k. linkTo t j) c b in
+    false-unless (overruns added (counter c s b) k) (λ e.
+    let (some, over) = and-true (above k 0) (above (counter c s b + k) counterLimit) e in
+    let (_, _, given) = gain-found 1 (λ k. linkTo t j) c b (ltb-true 0 k some) in
+    let (granted, lo, hi) = gives-within c (linkTo t j) b given in
+    let is : b ≡ t = omega (arith, target .table) in
+    omega (arith, rw (← is) at (below c granted), ltb-true counterLimit (counter c s b + k) over, gain-most 1 (λ k. linkTo t j) c b)) where
+      below : (c : Counter) → grants c (linkTo t j) ≡ true → counter c s t < counterLimit
+      below writable g = absurd (false≢true g)
+      below executable g = absurd (false≢true g)
+      below linked g = target .room
+
+pub link-accepted : {s : Store} {p i t j : ℕ} → Vacant sections s p i → i < tableEntries l1 → LinkTarget s t j → linkOutcome s p i t j .answer ≡ 0
+unfolding linkOutcome
+link-accepted {s} {p} {i} {t} {j} room l target =
+    let at = room .placed in
+    settle-answer _ _ _ ∙ accepted (step (at .fits) (step (in-region at) (step (at-multiple at) (step (lt-leb (tableEntries l1) i l) (step (lt-leb blockTables j (target .table))
+    (step (right-types room) (step (no-executable room) (step (unoccupied room)
+    (step (inside (base s) (blocks s) t (tableBlocks l2) (target .low) (omega (arith, target .high)))
+    (step (same _ _ (target .type)) (step (none-overruns added s 1 (λ k. linkTo t j) (link-counts s t j target)) done)))))))))))
+
+pub link-beyond : {s : Store} {p : ℕ} (i t j : ℕ) → Placed l1 s p → tableEntries l1 ≤ i → linkOutcome s p i t j .answer ≡ 4
+unfolding linkOutcome
+link-beyond {s} {p} i t j at h =
+    settle-answer _ _ _ ∙ decides (past (at .fits) (past (in-region at) (past (at-multiple at) (here (le-leb (tableEntries l1) i h)))))
