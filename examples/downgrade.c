@@ -1,7 +1,7 @@
 /*
- * What a hypervisor does where the monitor refuses a mapping that would make a block writable and executable (source document 002, "emulation
- * layer"): it maps with less, notes the right that it held back, and when the guest then faults on it, downgrades the mapping in the way and
- * tries again. One page, mapped by two entries of one L2 block, goes from writable to executable and back.
+ * What a hypervisor does where the monitor refuses a mapping that would make a block writable and executable (docs/RULES.md, map 11): it maps
+ * with less, notes the right that it held back, and when the guest then faults on it, downgrades the mapping in the way and tries again. One
+ * page, mapped by two entries of one L2 block, goes from writable to executable and back (policies 9).
  */
 #include "pagemon.h"
 #include "signature.h"

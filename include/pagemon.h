@@ -1,26 +1,29 @@
 /*
- * The paging monitor, as libmonitor.a exports it.
+ * The paging monitor, as libmonitor.a exports it. docs/RULES.md states every rule in full, under the numbers that the calls answer.
  *
  * Buffers. The caller lends up to three byte buffers for the time of one call, each as a pointer and its length in bytes:
  *
  *   memory   n blocks of PAGEMON_BLOCK_BYTES, n from PAGEMON_MIN_BLOCKS to PAGEMON_MAX_BLOCKS: the physical memory of the region.
- *   ledger   PAGEMON_LEDGER_BYTES(n) bytes, kept by the monitor. Its words are little-endian: the region's first block number B, the active
- *            L1 table's first block (PAGEMON_NO_TABLE for none), then for each block four words: type, w, x, l. w counts the table entries
- *            that let the guest write to this block, x those that let it execute, l the links to it from L1 tables.
- *   golden   the golden image: 0 to PAGEMON_MAX_DIGESTS SHA-256 digests of PAGEMON_DIGEST_BYTES, end to end, in any order.
+ *   ledger   PAGEMON_LEDGER_BYTES(n) bytes, kept by the monitor: words of 32 bits, the lowest byte first. They are the region's first block
+ *            number B, the first block of the active L1 table (PAGEMON_NO_TABLE for none), and for each block type, w, x, l. w counts the
+ *            table entries that let the guest write to the block, x those that let it execute from it, l the L1 entries that link to it.
+ *   golden   the golden image: SHA-256 digests of PAGEMON_DIGEST_BYTES, one behind the other in any order, none or up to
+ *            PAGEMON_MAX_DIGESTS.
  *
- * No two buffers of a call share a byte, and nothing else writes them during the call. No pointer is NULL, also where the length is 0. Any alignment will do. Any lengths and any contents
- * are safe to lend: a buffer that breaks the rules is refused (PAGEMON_MISFIT) or judged as it stands.
+ * No two buffers of a call share a byte, and nothing else writes them during the call. No pointer is NULL, also where the length is 0. Any
+ * alignment will do. Any lengths and any contents are safe to lend: they are refused (PAGEMON_MISFIT) or judged as they stand.
  *
- * The processor. Entries are judged as ARMv7-A short descriptors with SCTLR.AFE, TRE and WXN 0, TTBCR 0 and DACR 1. TLB and caches are the caller's:
- * docs/ASSUMPTIONS.md says which accepted call needs which upkeep before the guest runs on. Calls on one region are made one at a time.
+ * The processor. Entries are judged as ARMv7-A short descriptors with SCTLR.AFE, TRE, WXN and EE 0, TTBCR 0 and DACR 1. TLB and caches are
+ * the caller's: docs/ASSUMPTIONS.md says which accepted call needs which upkeep before the guest runs on. Calls on one region are made one
+ * at a time.
  *
- * Answers. Each call returns 0 (PAGEMON_ACCEPTED) or the lowest refusal number that applies to it. A refused call changes no byte of any buffer. An
- * accepted one changes only what its comment names; every other byte stays as it was. A buffer that a call cannot change is const.
+ * Answers. Each call returns 0 (PAGEMON_ACCEPTED), or the lowest of its refusals that apply. After a refused call every buffer is as it was
+ * before it, though the ledger may differ while create or free is running. An accepted call changes what its comment names, and no other
+ * byte. A buffer that a call cannot change is const.
  *
- * Numbers. Blocks are physical block numbers (address / 4096): the region is B to B + n - 1, B is a multiple of PAGEMON_SECTION_BLOCKS and
- * B + n is at most 2^20. An L1 table is four blocks, the first a multiple of 4, with 4,096 entries. An L2 block holds four L2 tables; its index
- * is 256 * table + entry. The holder of an entry is the one block that contains its word.
+ * Numbers. A block is named by its physical number, address / 4096. The region is the n blocks from B on; B is a multiple of
+ * PAGEMON_SECTION_BLOCKS, and B + n at most 2^20. An L1 table has four blocks from a multiple of 4 on, and 4,096 entries. An L2 block has
+ * four L2 tables of 256 entries: entry e of table t has the index 256 * t + e. The holder of an entry is the block in which its word lies.
  */
 #ifndef PAGEMON_H
 #define PAGEMON_H
@@ -44,7 +47,7 @@ extern "C" {
 #define PAGEMON_LEDGER_RECORD_BYTES 16u    /* bytes of a block's record: type, w, x, l */
 #define PAGEMON_DIGEST_BYTES 32u           /* bytes of a digest in the golden image */
 #define PAGEMON_MAX_DIGESTS 1024u          /* most digests of a golden image */
-#define PAGEMON_MAX_COUNT 4194304u         /* the highest lawful counter, 2^22 */
+#define PAGEMON_MAX_COUNT 4194304u         /* the limit of a counter, 2^22 */
 #define PAGEMON_NO_TABLE 0xFFFFFFFFu       /* the active word when no table is in use */
 
 /* The ledger's length for a memory of `blocks` blocks. */
@@ -67,23 +70,24 @@ enum {
 /* Answers. */
 enum {
     PAGEMON_ACCEPTED = 0,            /* accepted */
-    PAGEMON_MISFIT = 1,              /* a buffer's length or the first block number B breaks the rules; in create and map also the golden image's length */
-    PAGEMON_OUTSIDE_REGION = 2,      /* the block is outside the region, for an L1 table any of its four */
-    PAGEMON_MISALIGNED = 3,          /* an L1 table's block is not a multiple of 4, or a section's target not of 256 */
-    PAGEMON_BEYOND_TABLE = 4,        /* the index is too large; in link also a table above 3 */
-    PAGEMON_WRONG_TYPE = 5,          /* the block is not of the needed type, for an L1 table any of its four */
-    PAGEMON_IN_USE = 6,              /* create: a counter of the blocks is above 0; free: the table is active (L1) or linked (L2) */
-    PAGEMON_EXECUTABLE_HOLDER = 7,   /* the block that holds the entry has x above 0 */
-    PAGEMON_WRONG_ENTRY = 8,         /* map, link: the entry is not a fault; create, free, unmap: an entry is not of an accepted form */
-    PAGEMON_UNLAWFUL_RIGHTS = 9,     /* rights above 7, or write or execute without read */
-    PAGEMON_UNFIT_TARGET = 10,       /* a place is not wholly in the region; a link's block is not L2; a target to be written is not data, or is a block that create types; a target to be executed includes the holder */
-    PAGEMON_CLASH = 11,              /* a target would be both writable and executable */
-    PAGEMON_UNSIGNED = 12,           /* a target to be executed is not signed by the golden image */
-    PAGEMON_OVERRUN = 13,            /* a counter that the call alters would end below 0 or above PAGEMON_MAX_COUNT */
-    PAGEMON_NO_ACTIVE_TABLE = 21,    /* guest: the active word is not the first of four region blocks, a multiple of 4 */
-    PAGEMON_FAULT_ENTRY = 22,        /* guest: the walk meets a fault entry */
-    PAGEMON_RIGHT_LACKING = 23,      /* guest: the walk ends, and the right is lacking */
-    PAGEMON_BROKEN_WALK = 24         /* guest: the walk meets an entry that is not of an accepted form or whose place is not wholly in the region */
+    PAGEMON_MISFIT = 1,              /* the length of memory or ledger, or B, is not lawful; in create and map also the golden image's length */
+    PAGEMON_OUTSIDE_REGION = 2,      /* the block, or one of an L1 table's four, lies outside the region */
+    PAGEMON_MISALIGNED = 3,          /* an L1 table's block is no multiple of 4, or a section's target none of 256 */
+    PAGEMON_BEYOND_TABLE = 4,        /* the table has no such index; in link also a table above 3 */
+    PAGEMON_WRONG_TYPE = 5,          /* the block, or one of an L1 table's four, has another type than the call needs */
+    PAGEMON_IN_USE = 6,              /* create: a block has a counter above 0; free: the table is active (L1) or linked (L2) */
+    PAGEMON_EXECUTABLE_HOLDER = 7,   /* the holder has x above 0 */
+    PAGEMON_WRONG_ENTRY = 8,         /* map, link: no fault stands at the index; create, free, unmap: an entry is not accepted */
+    PAGEMON_UNLAWFUL_RIGHTS = 9,     /* the rights are above 7, or hold write or execute and not read */
+    PAGEMON_UNFIT_TARGET = 10,       /* a part of a target, or of an entry's place, lies outside the region; link, create: a link to a block that is not L2;
+                                        map, create: a block to be written is no data, or one of the new table; map: the holder would be executed */
+    PAGEMON_CLASH = 11,              /* a block would be both writable and executable */
+    PAGEMON_UNSIGNED = 12,           /* a block would be executable that the golden image does not sign */
+    PAGEMON_OVERRUN = 13,            /* a counter would end below 0 or above PAGEMON_MAX_COUNT */
+    PAGEMON_NO_ACTIVE_TABLE = 21,    /* guest: the active word is no multiple of 4, or one of four blocks from it on lies outside the region */
+    PAGEMON_FAULT_ENTRY = 22,        /* guest: the walk meets a fault */
+    PAGEMON_RIGHT_LACKING = 23,      /* guest: the walk ends at an entry that does not give the right */
+    PAGEMON_BROKEN_WALK = 24         /* guest: the walk meets an entry that is not accepted, or that leads outside the region in part */
 };
 
 /*
@@ -102,8 +106,8 @@ uint32_t pagemon_create_l2(const uint8_t *memory, size_t memory_length, uint8_t 
                            size_t golden_length, uint32_t block);
 
 /*
- * Makes the blocks of a table data again; the bytes remain. Refusals: 1, 2, 3 (L1), 5, 6, 8, 10, 13. Writes the ledger: the types of these
- * blocks, and the counters, which lose the table's entries.
+ * Makes the blocks of a table data again, with the bytes that they hold. Refusals: 1, 2, 3 (L1), 5, 6, 8, 10, 13. Writes the ledger: the
+ * types of these blocks, and the counters, from which the table's entries are taken.
  */
 uint32_t pagemon_free_l1(const uint8_t *memory, size_t memory_length, uint8_t *ledger, size_t ledger_length, uint32_t block);
 uint32_t pagemon_free_l2(const uint8_t *memory, size_t memory_length, uint8_t *ledger, size_t ledger_length, uint32_t block);
@@ -125,8 +129,8 @@ uint32_t pagemon_link(uint8_t *memory, size_t memory_length, uint8_t *ledger, si
                       uint32_t target, uint32_t table);
 
 /*
- * Takes away the entry at `index` of the table. Refusals: 1, 2, 3 (L1), 4, 5, 7, 8, 10, 13. Writes 0 over the entry's word in memory, a fault
- * entry's too, and lowers the counters of what the entry gave in the ledger.
+ * Takes away the entry at `index` of the table. Refusals: 1, 2, 3 (L1), 4, 5, 7, 8, 10, 13. Writes 0 over the entry's word in memory, also
+ * where a fault stood, and lowers the counters of what the entry gave in the ledger.
  */
 uint32_t pagemon_unmap_l1(uint8_t *memory, size_t memory_length, uint8_t *ledger, size_t ledger_length, uint32_t block, uint32_t index);
 uint32_t pagemon_unmap_l2(uint8_t *memory, size_t memory_length, uint8_t *ledger, size_t ledger_length, uint32_t block, uint32_t index);
@@ -135,7 +139,7 @@ uint32_t pagemon_unmap_l2(uint8_t *memory, size_t memory_length, uint8_t *ledger
 uint32_t pagemon_switch(const uint8_t *memory, size_t memory_length, uint8_t *ledger, size_t ledger_length, uint32_t block);
 
 /*
- * The guest reads, or fetches as an instruction, the byte at a virtual address, through the active table. Refusals: 1, 21, then along the walk
+ * The guest reads, or fetches as an instruction, the byte at a virtual address, through the active table. Refusals: 1, 21, and by the walk
  * 22, 23, 24. Every call sets `*byte`: the byte, or 0 when refused. `byte` points into none of the buffers. No buffer changes.
  */
 uint32_t pagemon_read(const uint8_t *memory, size_t memory_length, const uint8_t *ledger, size_t ledger_length, uint32_t address,
@@ -144,7 +148,7 @@ uint32_t pagemon_fetch(const uint8_t *memory, size_t memory_length, const uint8_
                        uint8_t *byte);
 
 /*
- * The guest writes the low 8 bits of `byte` at a virtual address, through the active table. Refusals: 1, 21, then along the walk 22, 23, 24.
+ * The guest writes the low 8 bits of `byte` at a virtual address, through the active table. Refusals: 1, 21, and by the walk 22, 23, 24.
  * Writes that one byte of memory.
  */
 uint32_t pagemon_write(uint8_t *memory, size_t memory_length, const uint8_t *ledger, size_t ledger_length, uint32_t address, uint32_t byte);

@@ -1,4 +1,6 @@
-/* The signature of a block, as libsignature.a exports it: SHA-256 (FIPS 180-4) and the search of a golden image. */
+/*
+ * The signature of a block, as libsignature.a exports it: SHA-256 (FIPS 180-4) and the search of a golden image (docs/RULES.md, signature).
+ */
 #ifndef SIGNATURE_H
 #define SIGNATURE_H
 
@@ -12,10 +14,20 @@ extern "C" {
 
 enum { SIGNATURE_DIGEST_BYTES = 32 };
 
-/* Stores the digest of the message's `length` bytes, any number of them, in the 32 bytes at `digest`, which lie apart from the message. */
+/*
+ * Stores the digest of the message's `length` bytes, any number of them, in the SIGNATURE_DIGEST_BYTES bytes at `digest`. The message is
+ * only read.
+ *
+ * No pointer is NULL, also where `length` is 0. `message` and `digest` have any alignment, and share no byte.
+ */
 void signature_sha256(const uint8_t *message, size_t length, uint8_t *digest);
 
-/* Is the digest of the block's bytes among the digests of 32 bytes that stand end to end in the golden image? A rest shorter than a digest counts for nothing. */
+/*
+ * Does the golden image have the digest of the block's bytes? An image is digests of SIGNATURE_DIGEST_BYTES, one behind the other in any
+ * order; bytes behind the last whole one count for nothing. Both lengths may be any number.
+ *
+ * No pointer is NULL, also where a length is 0. `block` and `golden` have any alignment, are only read, and may share bytes.
+ */
 bool signature_is_signed(const uint8_t *block, size_t block_length, const uint8_t *golden, size_t golden_length);
 
 #ifdef __cplusplus

@@ -1,5 +1,6 @@
 /*
- * Lists of steps, as libsteps.a exports them: records of calls, obeyed one after the other by the calls of the paging monitor.
+ * Lists of steps, as libsteps.a exports them: records of calls, obeyed one after the other by the calls of the paging monitor
+ * (docs/RULES.md, runner).
  *
  * A record is PAGEMON_RECORD_BYTES bytes: the two bytes of the mark, a call byte (below), and four argument words, little-endian, in the order of the call's
  * parameters in pagemon.h. Words that the call does not use may hold anything. A record with another mark or another call byte, and a rest shorter than a
@@ -44,8 +45,10 @@ enum {
  * image, as for the calls of pagemon.h.
  *
  * Writes memory and ledger as the calls do, the answer of each record obeyed to `answers`, and to `bytes` the byte that its read or fetch gave, 0 for every
- * other call. What lies beyond in `answers` and `bytes` stays as it was. No two of the six buffers share a byte, and no pointer is NULL, also where the length
- * is 0. `answers` is aligned as a uint32_t is, and for the others any alignment will do.
+ * other call. What lies beyond in `answers` and `bytes` stays as it was.
+ *
+ * No pointer is NULL, also where a length is 0. `answers` is aligned as a uint32_t is; the other five buffers have any alignment. None of the six shares a
+ * byte with another, but golden and records, which are only read, may share bytes with each other. Nothing else writes them during the call.
  */
 size_t pagemon_run(uint8_t *memory, size_t memory_length, uint8_t *ledger, size_t ledger_length, const uint8_t *golden, size_t golden_length,
                    const uint8_t *records, size_t records_length, uint32_t *answers, size_t answers_length, uint8_t *bytes, size_t bytes_length);

@@ -3,7 +3,7 @@
 
     python3 tests/page_rights.py > crates/rights_table/stdout
 
-It follows document 01, "Entries", sentence by sentence and reads neither the table of the code nor the definitions of the proofs.
+Written from document 01 alone: it reads neither the table of the code nor the definitions of the proofs. Its steps have the clauses of docs/RULES.md.
 """
 
 READ, WRITE, EXECUTE = 1, 2, 4
@@ -15,21 +15,21 @@ def bit(word, number):
 
 
 def page_rights(index):
-    # "bits 1..0 = 00: fault, other bits free"
+    # entries 5
     if bit(index, 1) == 0 and bit(index, 0) == 0:
         return FAULT
-    # "L2 10 or 11: page", "All else .. is not accepted"
+    # entries 4: neither a fault nor a page
     if bit(index, 1) == 0:
         return NOT_ACCEPTED
-    # "AP = bits 9, 5, 4, XN = bit 0"
+    # entries 8
     ap = f"{bit(index, 9)}{bit(index, 5)}{bit(index, 4)}"
     xn = bit(index, 0)
-    # "All else, and AP 100 (binary), is not accepted"
+    # entries 9
     if ap == "100":
         return NOT_ACCEPTED
-    # "AP 010, 110 and 111 let the guest read; 011 read and write; 000, 001 and 101 nothing"
+    # entries 10
     granted = {"010": READ, "110": READ, "111": READ, "011": READ + WRITE, "000": 0, "001": 0, "101": 0}[ap]
-    # "Execute needs read and XN = 0"
+    # entries 11
     if granted & READ and xn == 0:
         granted += EXECUTE
     return ACCEPTED + granted

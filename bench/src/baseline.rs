@@ -126,7 +126,7 @@ fn is_signed(memory: &[u8], b: usize, golden: &[u8]) -> bool {
 enum Entry {
     Fault,
     Unaccepted,
-    /// The 1 KiB place of an L2 table.
+    /// The number of an L2 table: its address / 1,024.
     Link(u32),
     /// The first block, the number of blocks, and the rights.
     Mapping(u32, u32, u32),

@@ -1,4 +1,4 @@
-/* The monitor library as C code links it: the document's sample list of calls, and buffers that break the rules. */
+/* The monitor library as C code links it: the sample list of calls (program 7), and buffers that are refused. */
 #include "pagemon.h"
 
 #include <stdbool.h>

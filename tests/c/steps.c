@@ -1,4 +1,4 @@
-/* The runner of lists of steps as C code links it, beside the calls themselves: the document's sample list, outputs of every length, and bad records. */
+/* The runner of lists of steps as C code links it, beside the calls themselves: the sample list (program 7), outputs of every length, and bad records. */
 #include "steps.h"
 
 #include <stdbool.h>

@@ -1,5 +1,5 @@
-//! What must hold after every step of a list, by the steps, their answers and the memory's bytes alone. The ledger is looked at only to compare its
-//! w, x and l. Nothing is shared with the reference but SHA-256.
+//! Lists 7 to 12, held against every step of a list by what is told alone (lists 4 to 6). The ledger is looked at only to compare its w, x and l.
+//! Nothing is shared with the reference but SHA-256.
 use crate::hasher::digest;
 use crate::monitor::{Call, Given, Kind, Store, BLOCK};
 
@@ -12,7 +12,7 @@ struct Gives {
     link: bool,
 }
 
-/// Read, write for AP 000 to 111, as text of the rule: 'n' nothing, 'r' read, 'w' read and write, '-' not accepted.
+/// What AP 000 to 111 give: 'n' nothing, 'r' read, 'w' read and write, '-' not accepted.
 const AP: [u8; 8] = *b"nnrw-nrr";
 
 fn l1_gives(word: u32) -> Option<Gives> {
@@ -83,8 +83,11 @@ impl Told {
         }
     }
 
-    /// Holds a step against the demand. `before` is the memory that the step was lent.
+    /// Holds a step against lists 7 to 12. `before` is the memory that the step was lent.
     pub fn step(&mut self, call: Call, given: Given, before: &[u8], store: &Store) -> Result<(), String> {
+        if matches!(given.answer, 13 | 24) {
+            return Err(format!("the answer is {}", given.answer));
+        }
         if matches!(call.kind, Kind::Read | Kind::Write | Kind::Fetch) {
             self.tables_unaltered(before, &store.memory)?;
         }
@@ -168,7 +171,7 @@ impl Told {
         Some((page.first - self.first, address % BLOCK))
     }
 
-    /// A fetched byte is the memory's at the walk's end, and that block is executable, signed and not writable.
+    /// Lists 11; and the block in which the walk ends is executable and not writable.
     fn fetched(&self, address: usize, byte: u8, store: &Store) -> Result<(), String> {
         let (position, offset) =
             self.walk(address, &store.memory).ok_or("a fetch was accepted, and its walk has no end")?;

@@ -1,4 +1,4 @@
-//! Lists of steps, drawn with an eye on what the steps before them left, with the demand on lists held against every step.
+//! Lists of steps, drawn with an eye on what the steps before them left, with lists 7 to 12 held against every step.
 use crate::bytes::word;
 use crate::cases::scene::*;
 use crate::compare::{difference, Comparer, Outcome};

@@ -1,4 +1,4 @@
-//! What `pagemon` has, reads and prints ("The program").
+//! What `pagemon` has, reads and prints (RULES: program).
 use crate::monitor::{Call, Given, Kind, Store, BLOCK, LEDGER_HEAD, LEDGER_RECORD};
 use std::rc::Rc;
 use Kind::*;
@@ -6,7 +6,7 @@ use Kind::*;
 pub const BLOCKS: usize = 16;
 pub const RECORD_BYTES: usize = 19;
 
-/// 16 blocks of zeros, an empty golden image and a ledger of zeros.
+/// What the program starts from (program 1).
 pub fn store() -> Store {
     Store {
         memory: Rc::new(vec![0; BLOCK * BLOCKS]),
@@ -15,7 +15,7 @@ pub fn store() -> Store {
     }
 }
 
-/// The paper's sample: calls, their arguments and their lines.
+/// The sample (program 7): calls, their arguments and their lines.
 pub const SAMPLE: [(Kind, &[u32], &str); 11] = [
     (Begin, &[0], "1 0"),
     (CreateL1, &[0], "2 0"),

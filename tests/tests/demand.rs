@@ -1,4 +1,4 @@
-//! The demand on lists finds unsafe monitors by itself: candidate and reference carry the same fault, so that they never differ.
+//! Lists 7 to 12 find unsafe monitors by themselves: candidate and reference carry the same fault, so that they never differ.
 use tests::compare::Comparer;
 use tests::faults::{Change, Fault, Slip};
 use tests::lists;

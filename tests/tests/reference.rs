@@ -1,4 +1,4 @@
-//! The reference held against what the monitor's document says in so many words.
+//! The reference held against cases that the rules state outright: the numbers of entries 13 to 16, edges, and the ends of bounds.
 use std::rc::Rc;
 use tests::bytes::word;
 use tests::cases::scene::*;
@@ -12,7 +12,7 @@ fn answer(scene: &mut Scene, kind: Kind, arguments: &[u32]) -> u32 {
     perform(&Reference::new(), Call::new(kind, arguments), &mut scene.store).answer
 }
 
-/// 0 for a fault, 7 for a form that is not accepted, else 8 with the rights.
+/// The number of an L2 entry by its low bits (entries 13).
 fn page_number(low: u32) -> u32 {
     Reference::new().page_number(low)
 }
@@ -38,7 +38,7 @@ fn twelve_page_rights() {
     }
 }
 
-/// All 1,024 page codes by the sentences on AP and XN.
+/// All 1,024 page codes, by entries 4 to 11.
 #[test]
 fn all_page_rights() {
     for low in 0..1024 {

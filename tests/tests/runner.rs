@@ -1,4 +1,4 @@
-//! The runner of lists of records beside the reference: the records obeyed, every answer and byte, and every byte of memory and ledger afterwards.
+//! The runner of lists of records beside the reference: the records obeyed, every answer and byte, and all of memory and ledger.
 use std::rc::Rc;
 use tests::lists::Lister;
 use tests::monitor::{Call, Given, Kind, Store, BLOCK};

@@ -1,4 +1,4 @@
-//! The document's sample list of calls, on what `pagemon` has.
+//! The sample list of calls (program 7), on what `pagemon` has.
 use tests::library::Library;
 use tests::monitor::{perform, Call, Kind, Store};
 use tests::program::{self, line, SAMPLE};

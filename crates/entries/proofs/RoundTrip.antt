@@ -18,7 +18,7 @@ use Rattle.entries.specs.Written.{pageBits, sectionBits, wordOf}
 use Rattle.entries.specs.Needs.{HoldsWord, IsBlock, IsSectionStart, IsTablePlace}
 use Rattle.entries.proofs.Decoding.{entryOfCode-page, l2Entry-code, l1Entry-link, l1Entry-section, isSectionForm-low, sectionRights-low}
 
--- the rights for which low bits are listed: "for rights 0, 1, 3, 5"
+-- the rights with which a mapping is written (entries 15)
 pub data Grantable : ℕ → Type 0 where
   none : Grantable 0
   read : Grantable 1

@@ -1,4 +1,4 @@
-// What a word of a table means: ARMv7-A short descriptors in the accepted forms.
+// What a word of a table means: ARMv7-A short descriptors (processor 1, entries 4 to 11).
 use crate::entry::Entry;
 use crate::entry::Level;
 use crate::entry::Mapping;
@@ -24,38 +24,38 @@ const SECTION_FORM: u32 = 0b10;
 
 const UNACCEPTED_AP: u32 = 0b100;
 
-// From 8 on the numbers of the page rights are those of accepted forms.
+// From 8 on the numbers of the page rights are those of pages (entries 13).
 const LEAST_ACCEPTED: u8 = 8;
 
-// "AP = bits 15, 11, 10"
+// The access bits of a section (entries 7).
 fn section_ap(w: u32) -> u32
     ensures { λ r. ⌜ r ≡ sectionAP w ⌝ }
 {
     4 * words::bits(w, 15, 1) + words::bits(w, 10, 2)
 }
 
-// "XN = bit 4"
+// The execute-never bit of a section (entries 7).
 fn section_xn(w: u32) -> u32
     ensures { λ r. ⌜ r ≡ sectionXN w ⌝ }
 {
     words::bits(w, 4, 1)
 }
 
-// "L1 01: link, bits 9..2 zero"
+// The word is a link (entries 6).
 fn is_link_form(w: u32) -> bool
     ensures { λ r. ⌜ r ≡ isLinkForm w ⌝ }
 {
     words::bits(w, 0, 2) == LINK_FORM && words::bits(w, 2, 8) == 0
 }
 
-// "bits 19, 18, 9 and 8..5 zero"
+// The bits that are 0 in a section (entries 7).
 fn has_section_zeros(w: u32) -> bool
     ensures { λ r. ⌜ r ≡ sectionZeros w ⌝ }
 {
     words::bits(w, 18, 2) == 0 && words::bits(w, 5, 5) == 0
 }
 
-// "L1 10: section", and not AP 100
+// The word is a section, with an AP that is accepted (entries 7, entries 9).
 fn is_section_form(w: u32) -> bool
     ensures { λ r. ⌜ r ≡ isSectionForm w ⌝ }
 {
@@ -94,14 +94,14 @@ fn l1_entry(w: u32) -> Entry
     Entry::Unaccepted
 }
 
-// "AP = bits 9, 5, 4"
+// The access bits of a page (entries 8).
 fn page_ap(w: u32) -> u32
     ensures { λ r. ⌜ r ≡ pageAP w ⌝ }
 {
     4 * words::bits(w, 9, 1) + words::bits(w, 4, 2)
 }
 
-// "L2 10 or 11: page", and not AP 100
+// The word is a page, with an AP that is accepted (entries 8, entries 9).
 fn is_page_form(w: u32) -> bool
     ensures { λ r. ⌜ r ≡ isPageForm w ⌝ }
 {

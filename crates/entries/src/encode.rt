@@ -1,4 +1,4 @@
-// The words that are written: place, access bits and memory kind.
+// The words that are written: place, access bits and memory kind (entries 15, entries 16).
 ghost use mathlib.Core.Path.{_≡_};
 ghost use Prim.Native.Nat.{ℕ, _<_, _^_};
 ghost use Rattle.entries.specs.Entries.{link, page, section};
@@ -101,7 +101,7 @@ pub fn section_word(kind: u32, block: u32, rights: u32) -> u32
     BLOCK_BYTES * block + section_bits(kind, rights)
 }
 
-// The word of a link to an L2 table: "the table's address + 1".
+// The word of a link to an L2 table, by the table's number (entries 16).
 pub fn link_word(place: u32) -> u32
     requires { ⌜ IsTablePlace place ⌝ }
     ensures { λ r. ⌜ ((kind : ℕ) → r ≡ wordOf kind (link place)) ⌝ }

@@ -1,4 +1,4 @@
-// "An entry is a fault, a link, a section or a page, and the last two carry a record of rights."
+// What a word of a table can be (entries 4, forms 8).
 ghost use mathlib.Core.Path.{_≡_};
 ghost use Rattle.entries.specs.Entries.{coverBlocks, coverFirst, isFault, isLink, isPage, isSection, isUnaccepted, placeBlocks, placeFirst, rights};
 ghost use Rattle.entries.specs.Meaning.{meaning};
@@ -11,9 +11,9 @@ pub struct Mapping {
 
 pub enum Entry {
     Fault,
-    // Not of an accepted form.
+    // Not accepted.
     Unaccepted,
-    // The 1 KiB place of an L2 table.
+    // The number of an L2 table: its address / 1,024 (entries 6).
     Link(u32),
     Section(Mapping),
     Page(Mapping),
@@ -101,7 +101,7 @@ pub fn rights(e: Entry) -> u32
     }
 }
 
-// The first block of the entry's place.
+// The first block of the entry's place (entries 17).
 pub fn place_first(e: Entry) -> u32
     ensures { λ r. ⌜ r ≡ placeFirst (meaning e) ⌝ }
 {
@@ -127,7 +127,7 @@ pub fn place_blocks(e: Entry) -> u32
     }
 }
 
-// The first of the blocks on which the entry counts.
+// The first of the blocks on which the entry counts (entries 18).
 pub fn cover_first(e: Entry) -> u32
     ensures { λ r. ⌜ r ≡ coverFirst (meaning e) ⌝ }
 {

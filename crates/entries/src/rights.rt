@@ -1,4 +1,4 @@
-// Rights: 1 (read) + 2 (write) + 4 (execute), in a call and in an entry, and the access bits that give them.
+// Rights as one number, in a call and in an entry (entries 12), and the access bits that give them (entries 10, entries 11).
 ghost use mathlib.Core.Path.{_≡_};
 ghost use Prim.Native.Nat.{_<_};
 ghost use Rattle.words.specs.Bounded.{num};
@@ -31,7 +31,7 @@ pub fn allows(rights: u32, right: Right) -> bool
     }
 }
 
-// "9 if rights exceed 7, or hold write or execute without read"
+// Rights that no map takes (map 9).
 pub fn are_unlawful(rights: u32) -> bool
     ensures { λ r. ⌜ r ≡ unlawfulRights rights ⌝ }
 {
@@ -47,7 +47,7 @@ pub fn are_unlawful(rights: u32) -> bool
     allows(rights, Right::Execute)
 }
 
-// "AP 010, 110 and 111 let the guest read; 011 read and write; 000, 001 and 101 nothing"
+// Access bits that give read (entries 10).
 fn may_read(ap: u32) -> bool
     ensures { λ r. ⌜ r ≡ mayRead ap ⌝ }
 {
@@ -66,7 +66,7 @@ fn may_write(ap: u32) -> bool
     ap == 0b011
 }
 
-// "Execute needs read and XN = 0"
+// Where execute is given (entries 11).
 fn may_execute(ap: u32, xn: u32) -> bool
     ensures { λ r. ⌜ r ≡ mayExecute ap xn ⌝ }
 {

@@ -4,7 +4,7 @@ ghost use Prim.Native.Nat.{_+_, _*_, _<_};
 ghost use Rattle.words.specs.Words.{bits};
 ghost use Rattle.entries.specs.Entries.{pageAP, pageCode, pageXN};
 
-// "fault 0; not accepted 7; else 8 + 1 (read) + 2 (write) + 4 (execute)". The twelve indices that the paper lists are marked.
+// The numbers of entries 13, by index. The twelve of entries 14 are marked.
 const PAGE_RIGHTS: [u8; 1024] = [
     0,
     7,

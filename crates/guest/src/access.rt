@@ -1,4 +1,4 @@
-// The guest's accesses: all is judged before the byte is read or stored.
+// The guest's accesses (RULES: guest): all is judged before the byte is read or stored.
 use crate::walk::Walk;
 use crate::walk::walk_tables;
 use entries::entry::Level;
@@ -53,7 +53,7 @@ fn is_allowed(access: Access, rights: u32) -> bool
     }
 }
 
-// "21 if active isn't the first of four region blocks, a multiple of 4"
+// No L1 table can lie at this block (guest 21).
 fn is_no_table(first: u32, n: usize, table: u32) -> bool
     requires { ⌜ first + n ≤ physicalBlocks ⌝ }
     ensures { λ r. ⌜ r ≡ (outside first n table (tableBlocks l1) || misaligned table (tableBlocks l1)) ⌝ }
@@ -64,7 +64,7 @@ fn is_no_table(first: u32, n: usize, table: u32) -> bool
     table % L1_BLOCKS != 0
 }
 
-// "at the end 23 if the right is lacking"
+// Judges the end of a walk by the right that the access needs (guest 23).
 fn arrive(walk: Walk, access: Access, first: u32, address: u32) -> Verdict
     requires { ⌜ EndsFrom first (walkOf walk) ⌝ }
     ensures { λ r. ⌜ verdictOf r ≡ arrived (accessOf access) first address (walkOf walk) ⌝ }
@@ -109,7 +109,7 @@ fn judge(memory: &[u8], ledger: &[u8], access: Access, address: u32) -> Verdict
     )
 }
 
-// Gives the byte, or 0 with a refusal.
+// Gives the byte, or 0 with a refusal (calls 5, guest byte).
 fn give(verdict: Verdict, memory: &[u8], byte: &mut u8) -> u32
     requires { ⌜ InMemory (now memory) (verdictOf verdict) ⌝ }
     ensures { λ r. ⌜ r ≡ answerIn (verdictOf verdict) ⌝ }
@@ -127,7 +127,7 @@ fn give(verdict: Verdict, memory: &[u8], byte: &mut u8) -> u32
     }
 }
 
-// Stores the low 8 bits of the byte.
+// Stores the low 8 bits of the byte (guest leaves).
 fn store(verdict: Verdict, memory: &mut [u8], byte: u32) -> u32
     requires { ⌜ InMemory (now memory) (verdictOf verdict) ⌝ }
     ensures { λ r. ⌜ r ≡ answerIn (verdictOf verdict) ⌝ }

@@ -1,4 +1,4 @@
-// A walk through the tables: "bits 31..20 index L1, 19..12 L2".
+// A walk through the tables (guest walk, guest end).
 use entries::decode::l1_entry_at;
 use entries::decode::l2_entry_at;
 use entries::entry;
@@ -37,7 +37,7 @@ pub enum Walk {
     },
 }
 
-// The number with which a walk stops at an entry, or 0 where it goes on.
+// The number with which a walk stops at an entry (guest 24, guest 22), or 0 where it goes on.
 fn stop_number(e: Entry, first: u32, n: usize) -> u32
     requires { ⌜ first + n ≤ physicalBlocks ⌝ }
     ensures { λ r. ⌜ NumberAt first n (meaning e) r ⌝ }
@@ -70,7 +70,7 @@ fn ends_at(level: Level, e: Entry, first: u32, n: usize, address: u32) -> Walk
     }
 }
 
-// A walk at a link of an L1 table, by the 1 KiB place of the L2 table.
+// A walk at a link of an L1 table, by the number of the L2 table to which it leads.
 fn through_link(place: u32, memory: &[u8], first: u32, n: usize, address: u32) -> Walk
     requires { ⌜ Region (now memory) first n ⌝ }
     ensures { λ r. ⌜ walkOf r ≡ passes l1 first n (link place) (follow first n (now (memory .entry)) address (link place)) ⌝ }

@@ -136,7 +136,7 @@ module _ (d : Change) (s : Store) {n : ℕ} {x : ℕ → Entry} {e : Entry} {p m
   abbrev over : ℕ → Counter → Bool
   over b c = overruns d (counter c s b) (gain n x c b)
 
-  -- "13": the entries overrun some counter of the region exactly if one that e grants is beyond the bounds of a change, on one of these blocks
+  -- refusal 13: the entries overrun some counter of the region exactly if one that e grants is beyond the bounds of a change, on one of these blocks
   overruns-blocks : blocksBeyond (leastBefore d) (mostBefore d) (s .ledger) e p m ≡ someOverrun d s n x
   unfolding blocksBeyond counterBeyond someOverrun
   overruns-blocks = both-ways _ _ there back where

@@ -1,4 +1,4 @@
-// Where the ledger keeps what, and the limits of a region: "Memory and ledger".
+// Where the ledger keeps what (ledger 1 to 4), and the limits of a region (memory 1, memory 2).
 use words::WORD_BYTES;
 ghost use mathlib.Core.Path.{_≡_};
 ghost use Prim.Native.Nat.{_+_, _*_, _^_, _≤_};

@@ -1,7 +1,7 @@
-// The numbers that the calls answer.
+// The numbers that the calls answer (calls 2).
 pub const ACCEPTED: u32 = 0;
 
-// A length or a stored first block breaks the rules.
+// A length, or the first block's number, is not lawful (refusal 1).
 pub const MISFIT: u32 = 1;
 
 pub const OUTSIDE_REGION: u32 = 2;
@@ -12,7 +12,7 @@ pub const BEYOND_TABLE: u32 = 4;
 
 pub const WRONG_TYPE: u32 = 5;
 
-// A block to be typed is counted, or a table to be freed is active or linked.
+// A block to be typed is counted, or a table to be freed is active or linked (create 6, free 6).
 pub const IN_USE: u32 = 6;
 
 pub const EXECUTABLE_HOLDER: u32 = 7;
@@ -30,7 +30,7 @@ pub const CLASH: u32 = 11;
 
 pub const UNSIGNED: u32 = 12;
 
-// A counter would end below 0 or above its limit.
+// A counter would overrun (refusal 13).
 pub const OVERRUN: u32 = 13;
 
 pub const NO_ACTIVE_TABLE: u32 = 21;

@@ -22,7 +22,7 @@ pub fn blocks(memory: &[u8]) -> usize
     memory.len() / BLOCK_BYTES
 }
 
-// The lengths, or the first block's number, break the rules.
+// A length, or this number of the first block, is not lawful (refusal 1).
 pub fn is_misfit(memory: &[u8], ledger: &[u8], first: u32) -> bool
     ensures { λ r. ⌜ r ≡ misfit (lent (now (memory .entry)) (now (ledger .entry))) first ⌝ }
 {

@@ -84,7 +84,7 @@ pub stored-line : (xs : List ℕ) (a : ℕ) (ys : List ℕ) (l : Line) {zs vs : 
     → longestLine ≤ length zs - b → Stored xs a ys zs b → Stored zs b (fitting (length zs - b) l) vs e → Stored xs a (ys ++ textOf l) vs e
 stored-line xs a ys l {zs} {b = b} h before last = stored-then xs a ys (textOf l) before (rw (fitting-line (length zs - b) l h) at last)
 
--- `14 23` and `12 0 65` of the paper's output, and `bad 11`
+-- two lines of crates/pagemon/stdout (program 7), and one of a bad record
 samples : textOf (Answer 14 23) ++ textOf (AnswerWithByte 12 0 65) ++ textOf (Bad 11)
     ≡ 49 ∷ 52 ∷ 32 ∷ 50 ∷ 51 ∷ 10 ∷ 49 ∷ 50 ∷ 32 ∷ 48 ∷ 32 ∷ 54 ∷ 53 ∷ 10 ∷ 98 ∷ 97 ∷ 100 ∷ 32 ∷ 49 ∷ 49 ∷ 10 ∷ []
 unfolding textOf line decimal digits

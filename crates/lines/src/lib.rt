@@ -1,4 +1,4 @@
-// The lines that the program prints ("The program"), stored in lent bytes: each function stores from a place on and gives the place after.
+// The lines that the program prints (program 4, program 5), stored in lent bytes: each function stores from a place on and gives the place after.
 use words::put_bytes;
 ghost use mathlib.Core.Path.{_≡_};
 ghost use mathlib.Core.List.{[], _∷_, _++_};
@@ -13,7 +13,7 @@ pub enum Line {
     Answer(u8, u32),
     // A call, its answer, and the byte that it gives.
     AnswerWithByte(u8, u32, u8),
-    // The number of records obeyed before one that is bad.
+    // How many records were obeyed before a bad one.
     Bad(u64),
 }
 

@@ -1,4 +1,4 @@
-// Link with L1 block, index, target block and table.
+// Link: an entry of an L1 table that leads to an L2 table (RULES: link).
 use crate::slot::holder_refusal;
 use crate::slot::is_occupied;
 use crate::slot::write_entries;
@@ -90,7 +90,7 @@ fn link_refusal(
     link_target_refusal(memory, ledger, target, table)
 }
 
-// "An accepted map or link writes the one word at its index .. and adds that entry to the counters."
+// The word at the index, and the count of the link (link leaves).
 pub fn link(
     memory: &mut [u8],
     ledger: &mut [u8],

@@ -1,4 +1,4 @@
-// Switch to an L1 block.
+// Switch: an L1 table is put in use (RULES: switch).
 use entries::entry::Level;
 use ledger::layout::TYPE_L1;
 use ledger::layout::put_active;

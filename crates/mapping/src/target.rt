@@ -1,4 +1,4 @@
-// What map tests of its target: the blocks that are to be read, written or executed.
+// What map tests of its target: the blocks that are to be read, written or executed (map 10 to 12, refusal 13).
 use crate::form::Form;
 use crate::form::target_blocks;
 use crate::request::Request;
@@ -40,7 +40,7 @@ ghost use Rattle.mapping.specs.Meaning.{formOf};
 ghost use Rattle.mapping.specs.Needs.{InRegion};
 ghost use Rattle.mapping.specs.Pieces.{mapTargetRefusals};
 
-// Some of the m blocks from target on is to be written and not D.
+// The rights hold write, and some of the m blocks from target on is no data.
 fn writes_table(memory: &[u8], ledger: &[u8], target: u32, m: u32, rights: u32) -> bool
     requires { ⌜ InRegion (lent (now memory) (now ledger)) target m ⌝ }
     ensures { λ r. ⌜ r ≡ (allows rights write && someBlock target m (λ b. neqb (typeOf (lent (now (memory .entry)) (now (ledger .entry))) b) typeD)) ⌝ }
@@ -63,7 +63,7 @@ fn executes_holder(block: u32, index: u32, target: u32, m: u32, rights: u32) -> 
     words::is_among(target, m, block + index / BLOCK_WORDS)
 }
 
-// "10 if the target isn't wholly in the region, is to be written and not D, or is to be executed and includes the holder"
+// The target is unfit (map 10).
 fn is_unfit_target(form: Form, memory: &[u8], ledger: &[u8], request: Request) -> bool
     requires { ⌜ Fits (now memory) (now ledger) × (holder (request .block) (request .index) < 2 ^ 32) ⌝ }
     ensures { λ r. ⌜ r ≡ unfitTarget (formOf form) (lent (now (memory .entry)) (now (ledger .entry))) (request .block) (request .index) (request .target) (request .rights) ⌝ }
@@ -93,7 +93,7 @@ fn some_counted(memory: &[u8], ledger: &[u8], k: usize, target: u32, m: u32) -> 
     some_above_zero(ledger, k, b, m as usize)
 }
 
-// "11 if both write and execute, or write onto x above 0, or execute onto w above 0"
+// The target would be both writable and executable (map 11).
 fn is_clashing_target(form: Form, memory: &[u8], ledger: &[u8], target: u32, rights: u32) -> bool
     requires { ⌜ InRegion (lent (now memory) (now ledger)) target (targetBlocks (formOf form)) ⌝ }
     ensures { λ r. ⌜ r ≡ clashingTarget (formOf form) (lent (now (memory .entry)) (now (ledger .entry))) target rights ⌝ }
@@ -111,7 +111,7 @@ fn is_clashing_target(form: Form, memory: &[u8], ledger: &[u8], target: u32, rig
     false
 }
 
-// "12 if a block to be executed is unsigned": nothing is hashed for other rights.
+// The target is not signed (map 12). For other rights nothing is hashed.
 fn is_unsigned_target(
     form: Form,
     memory: &[u8],

@@ -1,4 +1,4 @@
-// Unmap L1, unmap L2 with block and index.
+// Unmap: the entry at an index is taken away (RULES: unmap).
 use crate::form::Form;
 use crate::form::level;
 use crate::form::mapping_words;
@@ -36,7 +36,7 @@ ghost use Rattle.mapping.specs.Meaning.{formOf};
 ghost use Rattle.mapping.specs.Needs.{SpeaksFor};
 ghost use Rattle.mapping.specs.Pieces.{removalRefusals, slotRefusals};
 
-// "The word becomes 0"
+// What is left where an entry stood (entries 16).
 const FAULT_WORD: u32 = 0;
 
 // Refusals 8, 10 and 13 of the entries to be removed, by the first of them.
@@ -84,7 +84,7 @@ fn slot_refusal(form: Form, memory: &[u8], ledger: &[u8], block: u32, index: u32
     holder_refusal(level, memory, ledger, block, index)
 }
 
-// "The word becomes 0, a fault entry's too", and the counters lose the entry.
+// The word and the counts of the entry go (unmap leaves).
 pub fn unmap(form: Form, memory: &mut [u8], ledger: &mut [u8], block: u32, index: u32) -> u32
     ensures { λ r. ⌜ r ≡ unmapOutcome (formOf form) (lent (now (memory .entry)) (now (ledger .entry))) block index .answer ⌝ }
     ensures { λ r. ⌜ lent (now (memory .exit)) (now (ledger .exit)) ≡ unmapOutcome (formOf form) (lent (now (memory .entry)) (now (ledger .entry))) block index .after ⌝ }

@@ -1,4 +1,4 @@
--- Demand 3 holds of every sequence of calls: whoever makes them, they leave and hand out what a run of their steps does.
+-- Lists 7 to 12 hold of every sequence of calls (lists 13): whoever makes them, they leave and hand out what a run of their steps does.
 use mathlib.Core.List.{List, [], _∷_, _++_}
 use mathlib.Core.Path.{_≡_, refl, sym, _∙_, ap}
 use Prim.Native.Nat.{ℕ}
@@ -44,7 +44,7 @@ calls-run (call c cs) =
     let (reached, (said, given)) = rw l at (calls-run cs) in
     (reached, (rw (a, said) refl, rw (b, given) refl))
 
--- the named theorem: demand 3 of exactly what is left and handed out by every sequence of calls, whoever makes them, over whatever was lent
+-- the named theorem, lists 13: lists 7 to 12 of exactly what is left and handed out by every sequence of calls, whoever makes them, over whatever was lent
 pub calls-uphold-demand3 : {golden : List ℕ} {s left : Store} {steps : List Step} {answers bytes : List ℕ}
     → Calls golden s steps left answers bytes → Upholds golden s steps left answers bytes
 calls-uphold-demand3 {golden} {s} {left} {steps} cs =

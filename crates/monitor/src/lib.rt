@@ -1,5 +1,5 @@
-// The calls as the hypervisor's C code makes them, with numbers and lent bytes. None relies on its caller's checks: each promises, for all inputs, its
-// answer, what is given with it, and every byte of memory and ledger afterwards.
+// The calls, exported to C (calls 1, forms 7). Their contracts ask nothing of the caller, and equate the answer, the byte and all of memory and ledger
+// with the rules (promises 1).
 use entries::entry::Level;
 use mapping::form::Form;
 use mapping::request::Request;
@@ -16,7 +16,7 @@ ghost use Rattle.rules.specs.Switch.{switchOutcome};
 ghost use Rattle.rules.specs.Tables.{pages, sections};
 ghost use Rattle.rules.specs.Unmap.{unmapOutcome};
 
-// Begin with the region's first block.
+// Begin: a region starts at this block.
 #[no_mangle]
 pub extern "C" fn pagemon_begin(memory: &[u8], ledger: &mut [u8], first: u32) -> u32
     ensures { λ r. ⌜ r ≡ beginOutcome (lent (now (memory .entry)) (now (ledger .entry))) first .answer ⌝ }
@@ -161,7 +161,7 @@ pub extern "C" fn pagemon_unmap_l2(
     mapping::unmap::unmap(Form::Pages, memory, ledger, block, index)
 }
 
-// Switch to an L1 block.
+// Switch: the L1 table at a block is put in use.
 #[no_mangle]
 pub extern "C" fn pagemon_switch(memory: &[u8], ledger: &mut [u8], block: u32) -> u32
     ensures { λ r. ⌜ r ≡ switchOutcome (lent (now (memory .entry)) (now (ledger .entry))) block .answer ⌝ }

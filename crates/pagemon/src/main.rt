@@ -1,4 +1,4 @@
-// Reads records from standard input, obeys them over 16 blocks of zeros with an empty golden image, and prints a line for each ("The program").
+// Reads records from standard input, obeys them on 16 blocks of zeros with an image without a digest, and prints a line for each (RULES: program).
 use libc::STDIN_FILENO;
 use libc::STDOUT_FILENO;
 use lines::LONGEST_LINE;

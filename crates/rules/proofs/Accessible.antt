@@ -1,4 +1,4 @@
--- The policies of source document 002 hold of a running state: a walk ends at an entry of the tables that grants what the walk grants, and
+-- The policies (RULES: policies) hold of a running state: a walk ends at an entry of the tables that grants what the walk grants, and
 -- that entry is counted, so the counters' claims are claims about walks.
 use mathlib.Core.Bool.{true}
 use mathlib.Core.List.{List}

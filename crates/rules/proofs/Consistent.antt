@@ -15,7 +15,7 @@ use Rattle.rules.specs.General.{Change, added, removed, endValue, endsBe
 use Rattle.rules.specs.Create.{clash}
 use Rattle.rules.proofs.Gains.{gives-fault, gain-most, gain-hit, gain-none, gain-same, gain-part, gain-window}
 
--- the type that a block needs: "a link's block isn't L2, or a writable target isn't D" are refused
+-- the type that a block needs for what it is given: data to be written, L2 to be linked to (create 10, map 10, link 10)
 abbrev pub Suits : Counter → ℕ → Type 0
 Suits writable t = t ≡ typeD
 Suits executable t = Unit {0}

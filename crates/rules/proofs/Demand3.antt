@@ -1,4 +1,4 @@
--- Demand 3 holds of every list: each step keeps the invariant, and the invariant says what demand 3 says of a moment.
+-- Lists 7 to 12 hold of every list: each step keeps the invariant, and the invariant says what they say of a moment.
 use mathlib.Core.List.{List, [], _∷_}
 use mathlib.Core.Option.{some, Option·none-ne-some}
 use mathlib.Core.Path.{_≡_, refl, _∙_, subst}
@@ -113,7 +113,7 @@ module _ (golden : List ℕ) where
   answered s (step ∷ steps) zero k e = (step, refl)
   answered s (step ∷ steps) (suc i) k e = answered (obey golden s step .after) steps i k e
 
-  -- demand 3 of a list that starts from a running state
+  -- lists 7 to 12, of a list that starts from a running state
   demanded : {B : ℕ} {s : Store} → Running (begun B golden) s → (steps : List Step) → Demand3 golden B s steps
   unfolding obey
   demanded {B} {s} r steps =
@@ -135,7 +135,7 @@ module _ (golden : List ℕ) where
             ((λ z. n .not-13 (is ∙ z)), (λ z. n .not-24 (is ∙ z)));
       }
 
--- every list that starts from what an accepted begin leaves
+-- lists 13: whatever an accepted begin was lent, and whatever the steps behind it
 pub demand3 : Demand3-holds
 demand3 golden start B accepted steps = demanded golden (begin-accepted start B golden accepted) steps
 

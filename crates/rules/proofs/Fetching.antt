@@ -138,7 +138,7 @@ fetch-accepted =
     let (block, z) = create-zeros one l2 4 (omega arith) refl (λ k l. let is : k ≡ 0 = omega arith in rw is refl) in
     rw (table, block, link-taken z .accepted, mapped z .accepted, switched z .accepted, fetched z) refl
 
--- so what demand 3 and the policies say of a fetch is said of this one, and the working set has a block
+-- so what lists 11 and policies 7 say of a fetch is said of this one, and some block is reached with execute
 abbrev byte : ℕ
 byte = getD (run golden started toFetch .bytes) 5 0
 

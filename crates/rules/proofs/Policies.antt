@@ -1,4 +1,4 @@
--- The policies hold of every list: each state that it reaches keeps demand 3's invariant, and the invariant gives each of them.
+-- The policies (RULES: policies) hold of every list: each state that it reaches keeps the invariant, and the invariant gives each of them.
 use mathlib.Core.Bool.{false}
 use mathlib.Core.List.{List, [], _∷_}
 use mathlib.Core.Logic.{_≢_}
@@ -63,6 +63,6 @@ module _ (golden : List ℕ) {B : ℕ} {s : Store} (r : Running (begun B golden)
             (history-golden (begun B golden) (take i steps) (run golden s steps .answers)) (λ lawful. in-turn (reached golden refl r steps i) lawful w) image;
       }
 
--- every list that starts from what an accepted begin leaves
+-- whatever an accepted begin was lent, and whatever the steps behind it
 pub policies : Policies-hold
 policies golden start B accepted steps = upheld golden (begin-accepted start B golden accepted) steps

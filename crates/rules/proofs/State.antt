@@ -100,7 +100,7 @@ module _ {B n : ℕ} {h : Told} {s : Store} (i : Inv B n h s) where
   pub running : Running h s
   running = subst₂ (λ b m. Inv b m h s) (sym (i .base-is)) (sym blocks-are) i
 
--- the invariant says what demand 3 says of a moment
+-- lists 7 to 9: the invariant says them of a moment
 pub safe : {h : Told} {s : Store} → Running h s → Safe h s
 unfolding afresh
 safe {h} {s} r = told-safe (subst (λ b. Inv b (blocks s) h s) (sym (r .told-base)) r) where

@@ -1,4 +1,4 @@
--- Every number that the paper names for create and free is an answer, for block 0 as an L2 block: its first entry decides, and the others are faults.
+-- Every number of create list and free list is an answer, for block 0 as an L2 block: its first entry decides, and the others are faults.
 use mathlib.Core.Bool.{Bool, true, false, _&&_, _||_, and-false, or-true}
 use mathlib.Core.List.{List, [], _∷_}
 use mathlib.Core.Logic.{_⊎_, inl, inr}

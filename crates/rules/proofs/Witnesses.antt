@@ -1,4 +1,4 @@
--- Every number that the paper names for begin, map, link, unmap, switch and the guest's accesses is an answer: it is computed on a small store.
+-- Every number of begin 1, map list, link list, unmap list, switch list and guest list is an answer: it is computed on a small store.
 use mathlib.Core.List.{List, [], _∷_, map}
 use mathlib.Core.Path.{_≡_, refl, _∙_, ap}
 use Prim.Native.Nat.{ℕ, _+_, _*_}

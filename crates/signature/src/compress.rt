@@ -1,4 +1,4 @@
-// The compression of one block (FIPS 180-4, 6.2.2, steps 2 to 4). The eight hash words go in and come back together.
+// The compression of one block (FIPS 180-4, 6.2.2, steps 2 to 4), with hash value and schedule by value (forms 1).
 use crate::functions::big_sigma0;
 use crate::functions::big_sigma1;
 use crate::functions::ch;

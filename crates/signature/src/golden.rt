@@ -12,7 +12,7 @@ const DIGEST_BYTES: usize = 32;
 
 const MOST_DIGESTS: usize = 1024;
 
-// The length is not that of 0 to 1,024 digests.
+// The image has part of a digest, or too many (signature 2).
 pub fn is_misfit_image(golden: &[u8]) -> bool
     ensures { λ r. ⌜ r ≡ misfitImage (now (golden .entry)) ⌝ }
 {

@@ -1,4 +1,4 @@
-// Lists of steps: records of calls, obeyed one after the other by the monitor's exported calls.
+// Lists of steps: records of calls, obeyed one after the other by the monitor's exported calls (RULES: runner).
 use crate::records::RECORD_BYTES;
 use crate::records::decode;
 use crate::runner::obey_record;
@@ -14,8 +14,8 @@ pub mod records; // records.rt: the step that a record holds
 pub mod runner; // runner.rt: a record is obeyed
 pub mod step; // step.rt: a step calls the monitor
 
-// Obeys the records up to the first that holds no step, as many as there is room for their answers and bytes, and says how many they were. Demand 3
-// holds of what is left and handed out.
+// Obeys the records up to the first that holds no step, as many as there is room for their answers and bytes, and says how many they were (runner 1,
+// runner 2). Lists 7 to 12 hold of what is left and handed out (runner 3).
 #[no_mangle]
 pub extern "C" fn pagemon_run(
     memory: &mut [u8],

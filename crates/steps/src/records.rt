@@ -1,4 +1,4 @@
-// Records: "mark 50 54 (hexadecimal), call byte, four argument words".
+// The records of a list (program 2, program 3).
 use crate::step::Step;
 use words::word;
 ghost use mathlib.Core.Bool.{_||_};

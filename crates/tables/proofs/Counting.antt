@@ -179,7 +179,7 @@ module _ (d : Change) (s : Store) (e : ℕ → Entry) (length-is : length (s .le
         let q : ℕ → Bool = λ p. beyond least most (counter c (counted i) p) in
         some-counter-hit (λ c. counterBeyond least most (recounted d s i e) c (e k) (coverFirst (e k)) (coverBlocks (e k))) c (own-hit s q c (e k) b g (rw (counter-counted i st c b n) u))
 
-    -- "13": an entry that can't be changed
+    -- refusal 13: an entry that can't be changed
     stuck-overruns : (i : ℕ) → i < m → Roomy d s i e → entryBeyond (leastBefore d) (mostOf d) (recounted d s i e) (e i) ≡ true → someOverrun d s m e ≡ true
     stuck-overruns i l r t =
         let (c, b, n, g, u) = beyond-found i i (leastBefore d) (mostOf d) l (roomy-storable i r) t in

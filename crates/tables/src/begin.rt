@@ -1,4 +1,4 @@
-// Begin with B: "All types and counters become 0, active none; memory unchanged".
+// Begin: a region starts, with no tables and no counts (RULES: begin).
 use ledger::layout::EXECUTABLE;
 use ledger::layout::LINKED;
 use ledger::layout::NO_TABLE;

@@ -1,5 +1,5 @@
 // The entries of a table are added to the counters, or taken away from them, one by one.
-// Refusal 13 shows on the way or at the end, and what was counted is then taken back.
+// Refusal 13 shows on the way or at the end, and what was counted is then taken back (calls 3).
 use crate::own::first_word;
 use crate::own::put_types;
 use entries::decode::entry_at;

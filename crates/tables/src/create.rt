@@ -1,4 +1,4 @@
-// Create L1, create L2: "Types and counters change, memory doesn't".
+// Create: blocks become a table, and its entries are counted (RULES: create).
 use crate::count::change_table;
 use crate::own::first_word;
 use crate::own::is_counted;

@@ -1,4 +1,4 @@
-// Free L1, free L2: "The type becomes D, the counters lose its entries, the bytes remain".
+// Free: a table becomes data, and its entries are taken from the counters (RULES: free).
 use crate::count::change_table;
 use crate::own::first_word;
 use crate::own::is_in_use;

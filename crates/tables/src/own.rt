@@ -30,7 +30,7 @@ pub fn first_word(ledger: &[u8], block: u32) -> usize
     BLOCK_WORDS as usize * record_of(ledger, block)
 }
 
-// "6 if any counter of its blocks is above 0"
+// Some block of the table has counts (create 6).
 pub fn is_counted(level: Level, memory: &[u8], ledger: &[u8], block: u32) -> bool
     requires { ⌜ Fits (now memory) (now ledger) ⌝ }
     requires { ⌜ TableInside (levelOf level) (now memory) (now ledger) block ⌝ }
@@ -62,7 +62,7 @@ fn is_linked(memory: &[u8], ledger: &[u8], block: u32) -> bool
     0 < record_word(ledger, LINKED, record_of(ledger, block))
 }
 
-// "6 if active (L1) or l above 0 (L2)"
+// The table is active, or linked to (free 6).
 pub fn is_in_use(level: Level, memory: &[u8], ledger: &[u8], block: u32) -> bool
     requires { ⌜ Fits (now memory) (now ledger) ⌝ }
     requires { ⌜ TableInside (levelOf level) (now memory) (now ledger) block ⌝ }

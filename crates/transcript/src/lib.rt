@@ -1,4 +1,4 @@
-// What the program prints of a list of records.
+// What the program prints of a list of records (program 4 to 6).
 use lines::Line;
 use lines::put_line;
 use steps::pagemon_run;

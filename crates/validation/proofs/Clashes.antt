@@ -86,7 +86,7 @@ module _ (m : ℕ) (e : ℕ → Entry) where
       any-avoids (λ i. meetsEntry m e (e i)) m
       (λ i l. rw (no-block-is (coverFirst (e i)) (coverBlocks (e i)) isExecuted (none-executed none)) (and-false (grants writable (e i))))
 
--- "11"
+-- create 11
 
 module _ (s : Store) (m : ℕ) (e : ℕ → Entry) where
   -- some entry meets a count of the ledger, or another entry
@@ -159,7 +159,7 @@ module _ (s : Store) (m : ℕ) (e : ℕ → Entry) where
           let w = gain-hit m e writable b i l g in
           clash-at i b writable l g (clash-true b (inl w) (omega arith) (omega arith))
 
-    -- "11", entry by entry
+    -- create 11, entry by entry
     clash-is : someRegionBlock s (clashes s m e) ≡ someMeets
     clash-is = both-ways (someRegionBlock s (clashes s m e)) someMeets (λ h. let (b, lo, hi, t) = some-block-found (base s) (blocks s) (clashes s m e) h in clash-meets b t) meets-clash
 
@@ -173,7 +173,7 @@ module _ (s : Store) (m : ℕ) (e : ℕ → Entry) where
     pub clash-none : any m (λ i. meetsCount (s .ledger) (e i)) ≡ false → any m (λ i. grants executable (e i)) ≡ false → someRegionBlock s (clashes s m e) ≡ false
     clash-none f none = clash-met f ∙ none-meets m e none
 
-  -- "12": where no entry executes, nothing has to be signed
+  -- create 12: where no entry executes, nothing has to be signed
   pub unsigned-none : (golden : List ℕ) → any m (λ i. grants executable (e i)) ≡ false → someRegionBlock s (unsigned golden s m e) ≡ false
   unsigned-none golden none = no-block-is (base s) (blocks s) (unsigned golden s m e) (λ b. rw (none-executed m e none b) refl)
 

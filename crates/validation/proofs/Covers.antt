@@ -62,7 +62,7 @@ some-block-or : (f m : ℕ) (q r : ℕ → Bool) → someBlock f m (λ b. q b ||
 unfolding someBlock
 some-block-or f m q r = any-or m (λ k. q (f + k)) (λ k. r (f + k))
 
--- "a writable target isn't D or is one of the blocks being typed"
+-- create 10, of an entry that writes: some block has another type, or the entry's blocks and the new table's overlap
 pub unfit-write-is : (v : Level) (s : Store) (p : ℕ) (e : Entry) → grants writable e ≡ true
     → unfitWrite v s p e ≡ (someBlock (coverFirst e) (coverBlocks e) (λ b. neqb (typeOf s b) typeD) || overlap (coverFirst e) (coverBlocks e) p (tableBlocks v))
 unfolding unfitWrite

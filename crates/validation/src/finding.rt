@@ -13,7 +13,7 @@ pub const MEETS_COUNT: u32 = 2;
 // Its place or its target is unfit: 10.
 pub const MISPLACED: u32 = 3;
 
-// It is not of an accepted form: 8.
+// It is not accepted: 8.
 pub const UNACCEPTED: u32 = 4;
 
 pub fn greater(x: u32, y: u32) -> u32

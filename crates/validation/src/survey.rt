@@ -1,4 +1,4 @@
-// One look at a table: the greatest of what is found of its m entries, from word j of the memory on. It ends at an entry of an unaccepted form.
+// One look at a table: the greatest of what is found of its m entries, from word j of the memory on. It ends at an entry that is not accepted.
 use crate::finding::FINE;
 use crate::finding::MISPLACED;
 use crate::finding::UNACCEPTED;

@@ -1,4 +1,4 @@
-// Tests of one entry against the ledger.
+// Tests of one entry against the ledger (create 8, create 10, create 11).
 use crate::cover::cover_counts;
 use crate::cover::cover_differs;
 use crate::cover::overlap;
@@ -31,7 +31,7 @@ ghost use Rattle.ledger.specs.Needs.{EntryRecorded, Fits};
 ghost use Rattle.validation.specs.Findings.{entryFinding, targetFinding};
 ghost use Rattle.validation.specs.Tests.{meets, meetsCount, unfit};
 
-// "a link's block isn't L2"
+// A link to a block that is not L2 (create 10).
 fn is_unfit_link(memory: &[u8], ledger: &[u8], e: Entry) -> bool
     requires { ⌜ EntryRecorded (now ledger) (meaning e) ⌝ }
     ensures { λ r. ⌜ r ≡ unfitLink (lent (now (memory .entry)) (now (ledger .entry))) (meaning e) ⌝ }
@@ -42,7 +42,7 @@ fn is_unfit_link(memory: &[u8], ledger: &[u8], e: Entry) -> bool
     false
 }
 
-// "a writable target isn't D or is one of the blocks being typed"
+// Write to a block that is no data, or belongs to the new table (create 10).
 fn is_unfit_write(level: Level, memory: &[u8], ledger: &[u8], block: u32, e: Entry) -> bool
     requires { ⌜ EntryRecorded (now ledger) (meaning e) ⌝ }
     ensures { λ r. ⌜ r ≡ unfitWrite (levelOf level) (lent (now (memory .entry)) (now (ledger .entry))) block (meaning e) ⌝ }

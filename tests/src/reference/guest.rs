@@ -70,7 +70,7 @@ impl View<'_> {
         }
     }
 
-    /// The walk's refusal at its end too: 23 if the right is lacking.
+    /// The walk's refusal, also at its end (guest 23).
     pub fn access(&self) -> Walk {
         match self.walk(self.arguments[0]) {
             Walk::Ended { mapping, .. } if !self.allowed(mapping) => Walk::Refused(23),

@@ -12,7 +12,7 @@ pub const L: usize = 2;
 
 pub const COUNT_LIMIT: i64 = 1 << 22;
 
-/// What a call adds to w, x and l of each block of the region.
+/// What a call adds to each block's w, x and l.
 pub type Changes = Vec<[i64; 3]>;
 
 /// Where a word of a record stands: the type, or with 1 added to W, X or L a counter.

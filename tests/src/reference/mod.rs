@@ -1,4 +1,5 @@
-//! The monitor, written for tests from its document alone: slow, plain, and total on all buffers and arguments. It can carry one seeded fault.
+//! The monitor, written for tests from document 01 alone, without a look at definitions or code: slow, plain, and total on all buffers and
+//! arguments. It can carry one seeded fault.
 pub mod entries;
 mod guest;
 mod ledger;
@@ -34,7 +35,7 @@ impl Reference {
         Reference::default()
     }
 
-    /// What a page with these low bits is: 0 for a fault, 7 for a form that is not accepted, else 8 + 1 (read) + 2 (write) + 4 (execute).
+    /// The number of an L2 entry with these low bits (entries 13).
     pub fn page_number(&self, low: u32) -> u32 {
         match self.view(Kind::Read, &[], &[], &[], &[]).decode(Level::L2, low) {
             Entry::Fault => 0,

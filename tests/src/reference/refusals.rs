@@ -1,4 +1,4 @@
-//! The refusals of each call, in the document's order. Every test can be asked whatever the earlier ones say.
+//! The refusals of each call, in their order. Every test can be asked whatever the earlier ones say.
 use super::entries::{asked, Entry, Level, Mapping};
 use super::guest::Walk;
 use super::ledger::{Changes, L, W, X};

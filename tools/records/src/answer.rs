@@ -73,7 +73,7 @@ fn meaning(call: Call, number: u32) -> Option<&'static str> {
         (10, Link) => "the target is not an L2 block of the region",
         (10, UnmapL1 | UnmapL2) => "the entry leads outside the region",
         (11, CreateL1 | CreateL2 | MapL1 | MapL2) => "a block would be writable and executable",
-        (12, CreateL1 | CreateL2 | MapL1 | MapL2) => "a block to be executed is unsigned",
+        (12, CreateL1 | CreateL2 | MapL1 | MapL2) => "a block to execute is not signed",
         (13, CreateL1 | CreateL2 | FreeL1 | FreeL2 | MapL1 | MapL2 | Link | UnmapL1 | UnmapL2) => {
             "a counter would leave 0 to 2^22"
         }
