@@ -71,7 +71,7 @@ pub extern "C" fn pagemon_free_l2(memory: &[u8], ledger: &mut [u8], block: u32) 
     tables::free::free(Level::L2, memory, ledger, block)
 }
 
-// Map L1: a section of 256 blocks with these rights, at an index of a table.
+// Map L1: a section of 256 blocks with these rights, at an index of an L1 table.
 #[no_mangle]
 pub extern "C" fn pagemon_map_l1(
     memory: &mut [u8],
@@ -94,7 +94,7 @@ pub extern "C" fn pagemon_map_l1(
     mapping::map::map(Form::Sections, memory, ledger, golden, request)
 }
 
-// Map L2: a page with these rights, at an index of a table.
+// Map L2: a page with these rights, at an index of an L2 block.
 #[no_mangle]
 pub extern "C" fn pagemon_map_l2(
     memory: &mut [u8],
@@ -133,7 +133,7 @@ pub extern "C" fn pagemon_link(
     mapping::link::link(memory, ledger, block, index, target, table)
 }
 
-// Unmap L1: the entry at an index of a table becomes a fault.
+// Unmap L1: the entry at an index of an L1 table becomes a fault.
 #[no_mangle]
 pub extern "C" fn pagemon_unmap_l1(
     memory: &mut [u8],
@@ -147,7 +147,7 @@ pub extern "C" fn pagemon_unmap_l1(
     mapping::unmap::unmap(Form::Sections, memory, ledger, block, index)
 }
 
-// Unmap L2: the entry at an index of a table becomes a fault.
+// Unmap L2: the entry at an index of an L2 block becomes a fault.
 #[no_mangle]
 pub extern "C" fn pagemon_unmap_l2(
     memory: &mut [u8],

@@ -1,5 +1,5 @@
--- A mapping of rights 0 or 1, a link and an unmap are accepted wherever table, holder, entry and target are right: each test of their lists is passed
--- by one of these. At an index beyond the table they are answered with 4.
+-- A mapping of rights 0 or 1, a link, and the unmap of a fault are accepted wherever table, holder, entry and target are right: each test of their
+-- lists is passed by one of these. At an index beyond the table they are answered with 4.
 use mathlib.Core.Bool.{true, false, not, false≢true}
 use mathlib.Core.List.{List}
 use mathlib.Core.Path.{_≡_, refl, _∙_, ap}
@@ -26,15 +26,15 @@ use Rattle.rules.proofs.Passing.{settle-answer}
 -- What map, link and unmap find
 
 -- the blocks from p on could be a table of this level: 1, 2 and 3 hold nothing against them
-pub record Placed (v : Level) (s : Store) (p : ℕ) : Type 0 where
+pub record TablePlace (v : Level) (s : Store) (p : ℕ) : Type 0 where
   pub fits : misfit s (base s) ≡ false
   pub low : base s ≤ p
   pub high : p + tableBlocks v ≤ base s + blocks s
   pub aligned : p % tableBlocks v ≡ 0
 
--- they are one, and a mapping of this form finds faults from index i on, in a block that cannot be executed
+-- the blocks are such a table, and a mapping of this form finds faults from index i on, in a block that cannot be executed
 pub record Vacant (f : Form) (s : Store) (p i : ℕ) : Type 0 where
-  pub placed : Placed (level f) s p
+  pub placed : TablePlace (level f) s p
   pub typed : (k : ℕ) → k < tableBlocks (level f) → typeOf s (p + k) ≡ typeCode (level f)
   pub unexecuted : counter executable s (holder p i) ≡ 0
   pub empty : (k : ℕ) → k < mappingWords f → tableEntry (level f) s p (i + k) ≡ fault
@@ -55,7 +55,7 @@ pub record LinkTarget (s : Store) (t j : ℕ) : Type 0 where
   pub room : counter linked s t < counterLimit
   pub table : j < blockTables
 
-module _ {v : Level} {s : Store} {p : ℕ} (at : Placed v s p) where
+module _ {v : Level} {s : Store} {p : ℕ} (at : TablePlace v s p) where
   in-region : tableOutside v s p ≡ false
   in-region = inside (base s) (blocks s) p (tableBlocks v) (at .low) (at .high)
 
@@ -119,15 +119,15 @@ module _ (f : Form) {s : Store} {p : ℕ} (i : ℕ) (whole : i % mappingWords f 
       (step (rw (inside (base s) (blocks s) t (targetBlocks f) (target .low) (target .high), no-write, no-execute) refl)
       (step (rw (no-write, no-execute) refl) (step (rw no-execute refl) (step (nothing-gained added s _ _ (λ c k b _. reads-give-nothing f t r (target .reads) c k b)) done)))))))))))))))
 
-  pub map-beyond : (golden : List ℕ) (t r : ℕ) → Placed (level f) s p → misfitImage golden ≡ false → t % targetBlocks f ≡ 0 → tableEntries (level f) ≤ i
+  pub map-beyond : (golden : List ℕ) (t r : ℕ) → TablePlace (level f) s p → misfitImage golden ≡ false → t % targetBlocks f ≡ 0 → tableEntries (level f) ≤ i
       → mapOutcome f golden s p i t r .answer ≡ 4
   unfolding mapOutcome
   map-beyond golden t r at image target-aligned h =
       settle-answer _ _ _ ∙ decides (past (at .fits) (past image (past (in-region at) (past (at-multiple at) (past (same _ _ target-aligned) (past (same _ _ whole) (here (le-leb (tableEntries (level f)) i h))))))))
 
-  pub unmap-accepted : Vacant f s p i → i < tableEntries (level f) → unmapOutcome f s p i .answer ≡ 0
+  pub unmap-fault-accepted : Vacant f s p i → i < tableEntries (level f) → unmapOutcome f s p i .answer ≡ 0
   unfolding unmapOutcome astray placeBlocks
-  unmap-accepted room l =
+  unmap-fault-accepted room l =
       let at = room .placed in
       settle-answer _ _ _ ∙ accepted (step (at .fits) (step (in-region at) (step (at-multiple at) (step (same _ _ whole) (step (lt-leb (tableEntries (level f)) i l)
       (step (right-types room) (step (no-executable room)
@@ -135,7 +135,7 @@ module _ (f : Form) {s : Store} {p : ℕ} (i : ℕ) (whole : i % mappingWords f 
       (step (any-avoids (λ k. astray (base s) (blocks s) (tableEntry (level f) s p (i + k))) (mappingWords f) (λ k m. rw (room .empty k m) refl))
       (step (nothing-gained removed s (mappingWords f) (λ k. tableEntry (level f) s p (i + k)) (λ c k b m. rw (room .empty k m) (gives-fault c b))) done))))))))))
 
-  pub unmap-beyond : Placed (level f) s p → tableEntries (level f) ≤ i → unmapOutcome f s p i .answer ≡ 4
+  pub unmap-beyond : TablePlace (level f) s p → tableEntries (level f) ≤ i → unmapOutcome f s p i .answer ≡ 4
   unfolding unmapOutcome
   unmap-beyond at h =
       settle-answer _ _ _ ∙ decides (past (at .fits) (past (in-region at) (past (at-multiple at) (past (same _ _ whole) (here (le-leb (tableEntries (level f)) i h))))))
@@ -165,7 +165,7 @@ link-accepted {s} {p} {i} {t} {j} room l target =
     (step (inside (base s) (blocks s) t (tableBlocks l2) (target .low) (omega (arith, target .high)))
     (step (same _ _ (target .type)) (step (none-overruns added s 1 (λ k. linkTo t j) (link-counts s t j target)) done)))))))))))
 
-pub link-beyond : {s : Store} {p : ℕ} (i t j : ℕ) → Placed l1 s p → tableEntries l1 ≤ i → linkOutcome s p i t j .answer ≡ 4
+pub link-beyond : {s : Store} {p : ℕ} (i t j : ℕ) → TablePlace l1 s p → tableEntries l1 ≤ i → linkOutcome s p i t j .answer ≡ 4
 unfolding linkOutcome
 link-beyond {s} {p} i t j at h =
     settle-answer _ _ _ ∙ decides (past (at .fits) (past (in-region at) (past (at-multiple at) (here (le-leb (tableEntries l1) i h)))))

@@ -1,5 +1,5 @@
 -- Calls 2: the answer is the lowest number that applies, and 0 if none does. The first refusal that holds answers, and the numbers of each
--- list ascend. From request 7 on lists come that do not: their theorems here are dropped, and nothing else relies on the order.
+-- list ascend. A request whose list does not ascend drops that list's theorem here; nothing else relies on the order.
 use mathlib.Core.Bool.{Bool, true, false, cond, _&&_, _||_, false≢true}
 use mathlib.Core.List.{List, [], _∷_}
 use mathlib.Core.Logic.{_⊎_, inl, inr, ⊎-elim}

@@ -1,5 +1,5 @@
--- Edges 1 to 3, the ends of the bounds: at the last number of a bound a call passes every test, and at the next it passes those before the
--- test of that bound.
+-- Edges 1 to 3: at the last value that a bound lets through a call is accepted, since it passes every test; at the next it is refused with the bound's
+-- number, since it passes the tests before that one.
 use mathlib.Core.Bool.{false}
 use mathlib.Core.List.{List, []}
 use mathlib.Core.Path.{_≡_, refl}
@@ -20,7 +20,7 @@ use Rattle.rules.specs.Begin.{beginOutcome}
 use Rattle.rules.specs.Map.{mapOutcome}
 use Rattle.rules.specs.Link.{linkOutcome}
 use Rattle.rules.specs.Unmap.{unmapOutcome}
-use Rattle.rules.proofs.Acceptance.{Placed, Vacant, ReadTarget, LinkTarget, map-accepted, map-beyond, link-accepted, link-beyond, unmap-accepted, unmap-beyond}
+use Rattle.rules.proofs.Acceptance.{TablePlace, Vacant, ReadTarget, LinkTarget, map-accepted, map-beyond, link-accepted, link-beyond, unmap-fault-accepted, unmap-beyond}
 use Rattle.rules.proofs.SmallStores.{zeros, length-zeros}
 
 -- a memory of n blocks with its ledger, at a B that fits
@@ -28,7 +28,7 @@ pub record Sized (n B : ℕ) (s : Store) : Type 0 where
   pub memory : length (s .memory) ≡ blockBytes * n
   pub ledger : length (s .ledger) ≡ ledgerHeadBytes + ledgerRecordBytes * n
   pub aligned : B % baseAlignment ≡ 0
-  pub low : B + n ≤ physicalBlocks
+  pub high : B + n ≤ physicalBlocks
 
 module _ {n B : ℕ} {s : Store} (sized : Sized n B s) where
   whole : length (s .memory) % blockBytes ≡ 0
@@ -55,7 +55,7 @@ module _ {n B : ℕ} {s : Store} (sized : Sized n B s) where
         le-ltb mostBlocks (blocks s) (omega (arith, count)),
         same _ _ l,
         same _ _ (sized .aligned),
-        le-ltb physicalBlocks (B + blocks s) (let b = sized .low in omega (arith, count)),
+        le-ltb physicalBlocks (B + blocks s) (let b = sized .high in omega (arith, count)),
       )
       refl
 
@@ -76,32 +76,32 @@ n-4097 z = many z (omega arith)
 pub map-4095 : {golden : List ℕ} {s : Store} {p t r : ℕ} → Vacant sections s p 4095 → ReadTarget sections golden s t r → mapOutcome sections golden s p 4095 t r .answer ≡ 0
 map-4095 room target = map-accepted sections 4095 refl room (omega arith) target
 
-pub map-4096 : (golden : List ℕ) {s : Store} {p : ℕ} (t r : ℕ) → Placed l1 s p → misfitImage golden ≡ false → t % 256 ≡ 0 → mapOutcome sections golden s p 4096 t r .answer ≡ 4
+pub map-4096 : (golden : List ℕ) {s : Store} {p : ℕ} (t r : ℕ) → TablePlace l1 s p → misfitImage golden ≡ false → t % 256 ≡ 0 → mapOutcome sections golden s p 4096 t r .answer ≡ 4
 map-4096 golden t r at image aligned = map-beyond sections 4096 refl golden t r at image aligned (omega arith)
 
 pub link-4095 : {s : Store} {p t j : ℕ} → Vacant sections s p 4095 → LinkTarget s t j → linkOutcome s p 4095 t j .answer ≡ 0
 link-4095 room target = link-accepted room (omega arith) target
 
-pub link-4096 : {s : Store} {p : ℕ} (t j : ℕ) → Placed l1 s p → linkOutcome s p 4096 t j .answer ≡ 4
+pub link-4096 : {s : Store} {p : ℕ} (t j : ℕ) → TablePlace l1 s p → linkOutcome s p 4096 t j .answer ≡ 4
 link-4096 t j at = link-beyond 4096 t j at (omega arith)
 
 pub unmap-4095 : {s : Store} {p : ℕ} → Vacant sections s p 4095 → unmapOutcome sections s p 4095 .answer ≡ 0
-unmap-4095 room = unmap-accepted sections 4095 refl room (omega arith)
+unmap-4095 room = unmap-fault-accepted sections 4095 refl room (omega arith)
 
-pub unmap-4096 : {s : Store} {p : ℕ} → Placed l1 s p → unmapOutcome sections s p 4096 .answer ≡ 4
+pub unmap-4096 : {s : Store} {p : ℕ} → TablePlace l1 s p → unmapOutcome sections s p 4096 .answer ≡ 4
 unmap-4096 at = unmap-beyond sections 4096 refl at (omega arith)
 
 -- edges 2: index 1,023 of an L2 block is taken, and 1,024 is answered with 4
 pub map-1023 : {golden : List ℕ} {s : Store} {p t r : ℕ} → Vacant pages s p 1023 → ReadTarget pages golden s t r → mapOutcome pages golden s p 1023 t r .answer ≡ 0
 map-1023 room target = map-accepted pages 1023 refl room (omega arith) target
 
-pub map-1024 : (golden : List ℕ) {s : Store} {p : ℕ} (t r : ℕ) → Placed l2 s p → misfitImage golden ≡ false → mapOutcome pages golden s p 1024 t r .answer ≡ 4
+pub map-1024 : (golden : List ℕ) {s : Store} {p : ℕ} (t r : ℕ) → TablePlace l2 s p → misfitImage golden ≡ false → mapOutcome pages golden s p 1024 t r .answer ≡ 4
 map-1024 golden t r at image = map-beyond pages 1024 refl golden t r at image (mod-one t) (omega arith)
 
 pub unmap-1023 : {s : Store} {p : ℕ} → Vacant pages s p 1023 → unmapOutcome pages s p 1023 .answer ≡ 0
-unmap-1023 room = unmap-accepted pages 1023 refl room (omega arith)
+unmap-1023 room = unmap-fault-accepted pages 1023 refl room (omega arith)
 
-pub unmap-1024 : {s : Store} {p : ℕ} → Placed l2 s p → unmapOutcome pages s p 1024 .answer ≡ 4
+pub unmap-1024 : {s : Store} {p : ℕ} → TablePlace l2 s p → unmapOutcome pages s p 1024 .answer ≡ 4
 unmap-1024 at = unmap-beyond pages 1024 refl at (omega arith)
 
 -- edges 3: a section that ends where the region ends is taken
@@ -110,7 +110,7 @@ pub last-section : (golden : List ℕ) {s : Store} {p i : ℕ} (r : ℕ) → Vac
 last-section golden {s} {p} {i} r room l image wide aligned reads =
     map-accepted sections i (mod-one i) room l (record { image = image; low = omega arith; high = omega arith; aligned = aligned; reads = reads })
 
--- All this can be had at once: in 256 blocks of zeros, where blocks 0 to 3 are an L1 table and block 4 is an L2 block
+-- What edges 2 and 3 take can be had at once: in 256 blocks of zeros, where blocks 0 to 3 are an L1 table and block 4 is an L2 block
 
 abbrev pub wide : Store
 wide = record { memory = zeros (blockBytes * 256); ledger = putRecordWord (retype (replicate (ledgerHeadBytes + ledgerRecordBytes * 256) 0) 0 4 (typeCode l1)) typeWord 4 (typeCode l2) }

@@ -104,7 +104,7 @@ counterWord linked = 3
 unfoldable pub someCounter : (Counter → Bool) → Bool
 someCounter q = q writable || q executable || q linked
 
--- ledger 3: the type of physical block p; outside the region this says nothing (below B, p - B is 0), and no answer depends on it: 2 and 10 come first
+-- ledger 3: the type of physical block p; outside the region this says nothing (below B, p - B is 0), and no answer depends on it: 2 comes first, or 10 holds anyway
 abbrev pub typeOf : Store → ℕ → ℕ
 typeOf s p = recordWord (s .ledger) typeWord (p - base s)
 

@@ -1,4 +1,4 @@
-//! The monitor, written for tests from document 01 alone, without a look at definitions or code: slow, plain, and total on all buffers and
+//! The monitor, written for tests from document 01 and its readings, without a look at definitions or code: slow, plain, and total on all buffers and
 //! arguments. It can carry one seeded fault.
 pub mod entries;
 mod guest;
