@@ -58,10 +58,10 @@ def main():
             name = str(f.relative_to(ROOT / "crates"))
             if f.name != "Lib.antt":
                 groups[group(name, crate)].append((name, lines([f])))
-    titles = ("up to the theorem over lists, the signature included", "for the runner, the program and the policies", "what inner functions owe each other")
+    titles = ("definitions up to the theorem over lists, the signature included", "definitions for the runner, the program and the policies", "definitions of what inner functions owe each other")
     for title, files in zip(titles, groups):
         print()
-        print(f"| definitions {title} | lines |")
+        print(f"| {title} | lines |")
         print("|---|---|")
         for name, count in files:
             print(f"| {name} | {count} |")
