@@ -1,3 +1,4 @@
 pub mod Decoding
 pub mod Running
 pub mod Upheld
+pub mod Arrivals

@@ -1,3 +1,4 @@
 pub mod Records
 pub mod Meaning
 pub mod Turns
+pub mod Spoilt

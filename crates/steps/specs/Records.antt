@@ -75,6 +75,10 @@ stepsFrom records p (suc m) = andThen (stepAt records p) (stepsFrom records (p +
 abbrev pub stepsIn : List ℕ → ℕ → List Step
 stepsIn records m = stepsFrom records 0 m
 
+-- program 4, program 9: the steps of all records up to the first that holds none; no list has more records than bytes
+abbrev pub allSteps : List ℕ → List Step
+allSteps records = stepsIn records (length records)
+
 -- runner 1: how many steps have a place for the answer and one for the byte
 abbrev pub room : List ℕ → List ℕ → ℕ
 room answers bytes = min (length answers) (length bytes)

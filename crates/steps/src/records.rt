@@ -4,14 +4,19 @@ use words::word;
 ghost use mathlib.Core.Bool.{_||_};
 ghost use mathlib.Core.Path.{_≡_};
 ghost use Prim.Native.Nat.{_+_, _≤_};
-ghost use lib.ListN.{length};
+ghost use lib.ListN.{getD, length};
 ghost use Rattle.steps.specs.Meaning.{held};
 ghost use Rattle.steps.specs.Records.{recordBytes, short, stepAt, stepOf, unmarked, wholeStep};
+ghost use Rattle.steps.specs.Spoilt.{spoilt};
+ghost use Rattle.steps.specs.Turns.{isStep};
 
 pub const RECORD_BYTES: usize = 19;
 
 // The call byte's place in a record.
 pub const CALL_PLACE: usize = 2;
+
+// A call byte of the table.
+const BEGIN: u8 = 1;
 
 const FIRST_MARK: u8 = 0x50;
 
@@ -85,4 +90,38 @@ pub fn decode(records: &[u8], at: usize) -> Record
         return Record::Bad;
     }
     step_in(records, at)
+}
+
+// Whether a record holds a step.
+fn holds_step(next: Record) -> bool
+    ensures { λ r. ⌜ r ≡ isStep (held next) ⌝ }
+{
+    match next {
+        Record::Holds(_) => true,
+        Record::Bad => false,
+    }
+}
+
+// The byte at a place, or another where there is none.
+fn byte_or(bytes: &[u8], at: usize, other: u8) -> u8
+    ensures { λ r. ⌜ r ≡ getD (now (bytes .entry)) at other ⌝ }
+{
+    if at < bytes.len() {
+        return bytes[at];
+    }
+    other
+}
+
+// Whether no record that holds a step begins with the bytes from a place on (program 9).
+pub fn is_spoilt(records: &[u8], at: usize) -> bool
+    requires { ⌜ at ≤ length (now records) ⌝ }
+    ensures { λ r. ⌜ r ≡ spoilt (now (records .entry)) at ⌝ }
+{
+    if byte_or(records, at, FIRST_MARK) != FIRST_MARK {
+        return true;
+    }
+    if byte_or(records, at + 1, SECOND_MARK) != SECOND_MARK {
+        return true;
+    }
+    !holds_step(step_of(byte_or(records, at + CALL_PLACE, BEGIN), 0, 0, 0, 0))
 }

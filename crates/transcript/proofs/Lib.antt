@@ -1,2 +1,4 @@
 pub mod Laying
+pub mod Sessions
 pub mod Batches
+pub mod Moving

@@ -1,1 +1,3 @@
 pub mod Transcript
+pub mod Sessions
+pub mod Needs

@@ -1,14 +1,13 @@
--- The lines of a batch of records, with the answers and bytes that its steps gave (RULES: program).
+-- The lines of records, with the answers and bytes that its steps gave (RULES: program).
 use mathlib.Core.Bool.{Bool, cond, _&&_, _||_}
 use mathlib.Core.List.{List, [], _++_}
 use Prim.Native.Nat.{ℕ, zero, suc, _+_, _*_}
-use lib.Dec.{eqb, ltb}
-use lib.ListN.{length, getD}
+use lib.Dec.{eqb}
+use lib.ListN.{getD}
 use Rattle.lines.specs.declared.Line.{Line}
-use Rattle.lines.specs.declared.Line.the-variants.{Answer, AnswerWithByte, Bad}
+use Rattle.lines.specs.declared.Line.the-variants.{Answer, AnswerWithByte}
 use Rattle.lines.specs.Lines.{textOf}
-use Rattle.rules.specs.Steps.{Step}
-use Rattle.steps.specs.Records.{recordBytes, callPlace, stepsIn}
+use Rattle.steps.specs.Records.{recordBytes, callPlace}
 
 -- program 3, program 4: the call byte is that of a read or a fetch
 abbrev pub givesByte : ℕ → Bool
@@ -24,16 +23,6 @@ transcript records answers bytes zero = []
 transcript records answers bytes (suc n) =
     transcript records answers bytes n ++ textOf (lineOf (getD records (recordBytes * n + callPlace) 0) (getD answers n 0) (getD bytes n 0))
 
--- program 4, program 5, program 6: what is printed of the records of a batch, n of which are obeyed, after so many in earlier batches:
--- their lines, and if bytes are left over a line that says bad
-unfoldable pub printed : List ℕ → List ℕ → List ℕ → ℕ → ℕ → List ℕ
-printed records answers bytes n earlier =
-    transcript records answers bytes n ++ cond (ltb (recordBytes * n) (length records)) (textOf (Bad (earlier + n))) []
-
--- program 6: the records of a batch
+-- the most records that are obeyed at a time
 abbrev pub batch : ℕ
 batch = 2048
-
--- program 6, runner 1: the steps of a batch
-abbrev pub batchSteps : List ℕ → List Step
-batchSteps records = stepsIn records batch

@@ -1,20 +1,27 @@
--- A bad record has its line after those of the records obeyed.
+-- The runner's outputs are of a batch's length, so its steps are the batch's.
+use Prim.Native.Nat.{ℕ}
 use native.Mathlib.Omega.{arith}
+use lib.ListN.{length-replicate}
 use borrow.Author.Needs.{needs}
-use Rattle.transcript.proofs.Batches.{printed-good, printed-bad, bad-ends}
+use Rattle.rules.specs.Store.{lent}
+use Rattle.transcript.proofs.Batches.{batched}
 use Rattle.transcript.proofs.obey_batch.Statement.{statement}
 use Rattle.transcript.proofs.obey_batch.Tie as tie
 
+put-lines-requires : tie.Need-put-lines-requires
+put-lines-requires c κs =
+    let a = c .before .before .before .before .before .before .before .before .before .before .before .before .before .before .before .before .before .before .before .args in
+    let e = c .before .before .before .before .before .before .before .before .before .pagemon-run .ensures in
+    let b = batched (a .golden .now) (lent (a .memory .now) (a .ledger .now)) (a .records .now) _ _ (length-replicate {A = ℕ} 2048 0) (length-replicate {A = ℕ} 2048 0) (omega arith) (e .0) (e .1 .0) (e .1 .1 .0) (e .1 .1 .1 .0) in
+    (b .whole, (omega arith, (omega arith, omega arith)))
+
 returns : tie.Need-returns
 returns c =
-    let e = c .before .before .before .before .before .before .before .before .obey-steps .ensures in
-    (e .0, (e .1 .0, (printed-good _ _ _ _ _ _ (omega arith) (e .1 .1 .0), (e .1 .1 .1 .0, omega arith))))
-
-returns-2 : tie.Need-returns-2
-returns-2 c =
-    let e = c .before .before .before .before .before .before .before .before .before .before .before .before .obey-steps .ensures in
-    let l = c .before .before .put-line .ensures in
-    (e .0, (e .1 .0, (printed-bad _ _ _ _ _ _ (omega arith) (omega arith) (e .1 .1 .0) l, (e .1 .1 .1 .0, bad-ends _ _ _ (omega arith) (omega arith) l))))
+    let a = c .before .before .before .before .before .before .before .before .before .before .before .before .before .before .before .before .before .before .before .before .before .before .args in
+    let e = c .before .before .before .before .before .before .before .before .before .before .before .before .pagemon-run .ensures in
+    let b = batched (a .golden .now) (lent (a .memory .now) (a .ledger .now)) (a .records .now) _ _ (length-replicate {A = ℕ} 2048 0) (length-replicate {A = ℕ} 2048 0) (omega arith) (e .0) (e .1 .0) (e .1 .1 .0) (e .1 .1 .1 .0) in
+    let p = c .before .before .put-lines .ensures in
+    (b .counted, (b .reached, (rw (b .lines) at (p .0), (b .few, b .whole, omega arith))))
 
 pub obey-batch-spec : {M : Type 1} → statement M
 obey-batch-spec =
@@ -25,10 +32,8 @@ obey-batch-spec =
     (search needs)
     (search needs)
     (search needs)
-    returns
+    put-lines-requires
     (search needs)
     (search needs)
     (search needs)
-    (search needs)
-    (search needs)
-    returns-2)
+    returns)
