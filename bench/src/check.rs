@@ -1,8 +1,9 @@
 //! The two programs do the same: answers, bytes given, memory and ledger, for every workload and for random calls.
-use crate::program::{Buffers, Kind, Monitor, Plain, Program, KINDS};
-use crate::random::Random;
+use crate::program::{Buffers, Monitor, Plain, Program};
 use crate::sha256::sha256;
-use crate::workloads::{Batch, BLOCK};
+use crate::workloads::Batch;
+use calls::random::Random;
+use calls::{ledger_bytes, Kind, BLOCK, LEDGER_RECORD};
 use std::collections::BTreeSet;
 
 fn given<P: Program>(kind: Kind, words: &[[u32; 4]], lent: &mut Buffers) -> Vec<(u32, u8)> {
@@ -45,11 +46,11 @@ impl Drawn {
     fn new(seed: u64, blocks: usize) -> Drawn {
         let lent = Buffers {
             memory: vec![0; BLOCK * blocks],
-            ledger: vec![0; 8 + 16 * blocks],
+            ledger: vec![0; ledger_bytes(blocks)],
             golden: [sha256(&[0; BLOCK]), [7; 32]].concat(),
-            scratch: vec![0; 16 * blocks],
+            scratch: vec![0; LEDGER_RECORD * blocks],
         };
-        let mut random = Random(seed);
+        let mut random = Random::new(seed);
         let first = 256 * random.below(4) as u32;
         let mut drawn = Drawn { random, lent, first, blocks };
         both(Kind::Begin, &[[first, 0, 0, 0]], &mut drawn.lent);
@@ -84,7 +85,7 @@ impl Drawn {
     fn l1_word(&mut self) -> u32 {
         let low = self.random.one_of(&[0x41E, 0x81E, 0xC1E, 0xC1E, 0x80E, 0xC0E]);
         match self.random.below(20) {
-            0..=7 => self.l2_block() << 12 | self.random.below(4) as u32 * 1024 | 1,
+            0..=7 => self.l2_block() << 12 | (self.random.below(4) as u32) << 10 | 1,
             8..=13 => self.section() >> 8 << 20 | low,
             14..=18 => 0,
             _ => self.random.next() as u32,
@@ -181,7 +182,8 @@ pub fn check_random(calls: usize) -> usize {
                 if list % 2 == 1 && drawn.random.below(4) == 0 {
                     drawn.poke_ledger();
                 }
-                let kind = if drawn.random.below(100) == 0 { Kind::Begin } else { drawn.random.one_of(&KINDS[1..]) };
+                let kind =
+                    if drawn.random.below(100) == 0 { Kind::Begin } else { drawn.random.one_of(&Kind::ALL[1..]) };
                 pairs.insert((kind, drawn.call(kind)));
             }
         }

@@ -5,9 +5,7 @@
 //!     bench --count CALL N PROGRAM BLOCKS     one workload N times on one program (monitor, plain), for an instruction count
 mod baseline;
 mod check;
-mod library;
 mod program;
-mod random;
 mod sha256;
 mod timing;
 mod workloads;
@@ -104,8 +102,14 @@ fn main() -> ExitCode {
     let arguments: Vec<String> = std::env::args().skip(1).collect();
     let arguments: Vec<&str> = arguments.iter().map(String::as_str).collect();
     let done = match arguments[..] {
-        [] => Ok(compare(WHOLE)),
-        ["--quick"] => Ok(compare(QUICK)),
+        [] => {
+            compare(WHOLE);
+            Ok(())
+        }
+        ["--quick"] => {
+            compare(QUICK);
+            Ok(())
+        }
         ["--count", name, times, program, blocks] => match (times.parse(), blocks.parse()) {
             (Ok(times), Ok(blocks)) => count(name, times, program, blocks),
             _ => Err("N and BLOCKS are numbers".to_string()),

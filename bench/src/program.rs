@@ -1,29 +1,7 @@
 //! The two programs behind one interface: a call is a kind, up to four words, and the lent buffers.
 use crate::baseline;
-use crate::library::*;
-
-#[derive(Clone, Copy, Debug, PartialEq, Eq, PartialOrd, Ord)]
-pub enum Kind {
-    Begin,
-    CreateL1,
-    CreateL2,
-    FreeL1,
-    FreeL2,
-    MapL1,
-    MapL2,
-    Link,
-    UnmapL1,
-    UnmapL2,
-    Switch,
-    Read,
-    Write,
-    Fetch,
-}
-
-pub const KINDS: [Kind; 14] = {
-    use Kind::*;
-    [Begin, CreateL1, CreateL2, FreeL1, FreeL2, MapL1, MapL2, Link, UnmapL1, UnmapL2, Switch, Read, Write, Fetch]
-};
+use calls::{Kind, PerBuffer, NUMBERS};
+use library::monitor::{repeat, Outputs};
 
 /// What is lent. The scratch bytes are the plain program's alone.
 #[derive(Clone)]
@@ -36,7 +14,7 @@ pub struct Buffers {
 
 /// Makes a call for each list of words, one after the other, and gives each answer and byte to `note`.
 pub trait Program {
-    fn batch(kind: Kind, words: &[[u32; 4]], lent: &mut Buffers, note: impl FnMut(u32, u8));
+    fn batch(kind: Kind, words: &[[u32; NUMBERS]], lent: &mut Buffers, note: impl FnMut(u32, u8));
 }
 
 /// The proved monitor in libmonitor.a.
@@ -44,6 +22,18 @@ pub struct Monitor;
 
 /// The program in plain Rust.
 pub struct Plain;
+
+impl Program for Monitor {
+    #[inline(always)]
+    fn batch(kind: Kind, words: &[[u32; NUMBERS]], lent: &mut Buffers, mut note: impl FnMut(u32, u8)) {
+        let Buffers { memory, ledger, golden, .. } = lent;
+        let lent = PerBuffer { memory, ledger, golden }.map(|buffer| buffer.as_mut_slice().into());
+        let mut byte = 0;
+        let outputs = Outputs { byte: &raw mut byte };
+        // SAFETY: the buffers and the byte are apart, and nothing else uses them meanwhile.
+        unsafe { repeat(kind, words, lent, outputs, |answer| note(answer, *outputs.byte)) }
+    }
+}
 
 /// One loop to a kind of call, so that nothing but the call itself is in it.
 macro_rules! batches {
@@ -63,34 +53,9 @@ macro_rules! batches {
     };
 }
 
-impl Program for Monitor {
-    #[inline(always)]
-    fn batch(kind: Kind, words: &[[u32; 4]], lent: &mut Buffers, mut note: impl FnMut(u32, u8)) {
-        let (memory, m) = (lent.memory.as_mut_ptr(), lent.memory.len());
-        let (ledger, r) = (lent.ledger.as_mut_ptr(), lent.ledger.len());
-        let (golden, g) = (lent.golden.as_ptr(), lent.golden.len());
-        batches!(words, note, kind, {
-            Begin(&[a, ..], _) => unsafe { pagemon_begin(memory, m, ledger, r, a) },
-            CreateL1(&[a, ..], _) => unsafe { pagemon_create_l1(memory, m, ledger, r, golden, g, a) },
-            CreateL2(&[a, ..], _) => unsafe { pagemon_create_l2(memory, m, ledger, r, golden, g, a) },
-            FreeL1(&[a, ..], _) => unsafe { pagemon_free_l1(memory, m, ledger, r, a) },
-            FreeL2(&[a, ..], _) => unsafe { pagemon_free_l2(memory, m, ledger, r, a) },
-            MapL1(&[a, b, c, d], _) => unsafe { pagemon_map_l1(memory, m, ledger, r, golden, g, a, b, c, d) },
-            MapL2(&[a, b, c, d], _) => unsafe { pagemon_map_l2(memory, m, ledger, r, golden, g, a, b, c, d) },
-            Link(&[a, b, c, d], _) => unsafe { pagemon_link(memory, m, ledger, r, a, b, c, d) },
-            UnmapL1(&[a, b, ..], _) => unsafe { pagemon_unmap_l1(memory, m, ledger, r, a, b) },
-            UnmapL2(&[a, b, ..], _) => unsafe { pagemon_unmap_l2(memory, m, ledger, r, a, b) },
-            Switch(&[a, ..], _) => unsafe { pagemon_switch(memory, m, ledger, r, a) },
-            Read(&[a, ..], byte) => unsafe { pagemon_read(memory, m, ledger, r, a, byte) },
-            Write(&[a, b, ..], _) => unsafe { pagemon_write(memory, m, ledger, r, a, b) },
-            Fetch(&[a, ..], byte) => unsafe { pagemon_fetch(memory, m, ledger, r, a, byte) },
-        })
-    }
-}
-
 impl Program for Plain {
     #[inline(always)]
-    fn batch(kind: Kind, words: &[[u32; 4]], lent: &mut Buffers, mut note: impl FnMut(u32, u8)) {
+    fn batch(kind: Kind, words: &[[u32; NUMBERS]], lent: &mut Buffers, mut note: impl FnMut(u32, u8)) {
         let Buffers { memory, ledger, golden, scratch } = lent;
         let (memory, ledger, golden, scratch) = (&mut memory[..], &mut ledger[..], &golden[..], &mut scratch[..]);
         batches!(words, note, kind, {

@@ -1,6 +1,7 @@
 //! The two programs timed in turns on the same buffers, which are restored before each run.
 use crate::program::{Buffers, Monitor, Plain, Program};
-use crate::workloads::{Batch, BLOCK, TABLE_BLOCKS};
+use crate::workloads::{Batch, TABLE_BLOCKS};
+use calls::BLOCK;
 use std::hint::black_box;
 use std::time::{Duration, Instant};
 

@@ -1,11 +1,9 @@
 //! What is measured: a prepared memory and ledger, and a batch of calls of one kind, all with the same answer.
-use crate::program::{Buffers, Kind, Plain, Program};
-use crate::random::Random;
+use crate::program::{Buffers, Plain, Program};
 use crate::sha256::sha256;
+use calls::random::Random;
+use calls::{ledger_bytes, Kind, BLOCK, LEDGER_RECORD};
 use Kind::*;
-
-pub const BLOCK: usize = 4096;
-const RECORD: usize = 16;
 
 /// The region's first block.
 pub const FIRST: u32 = 0x1000;
@@ -53,9 +51,9 @@ impl Scene {
     pub fn new(blocks: usize) -> Scene {
         let lent = Buffers {
             memory: vec![0; BLOCK * blocks],
-            ledger: vec![0; 8 + RECORD * blocks],
+            ledger: vec![0; ledger_bytes(blocks)],
             golden: Vec::new(),
-            scratch: vec![0; RECORD * blocks],
+            scratch: vec![0; LEDGER_RECORD * blocks],
         };
         let mut scene = Scene { lent, blocks };
         scene.accepted(Begin, &[[FIRST, 0, 0, 0]]);
@@ -117,7 +115,7 @@ impl Scene {
 
     /// Pages of all memory kinds that give nothing, read, or read and write, in no order.
     fn written_mixed_pages(&mut self) {
-        let mut random = Random(1);
+        let mut random = Random::new(1);
         for i in 0..1024 {
             let access = random.one_of(&[0x013, 0x023, 0x033, 0x213, 0x223, 0x233]);
             let kind = random.next() as u32 & 0x1CC;
@@ -194,7 +192,7 @@ fn accepted(kind: Kind, words: Vec<[u32; 4]>) -> Batch {
 
 /// The addresses of a guest's accesses.
 fn guest_addresses() -> Vec<[u32; 4]> {
-    (0..MANY).map(|i| [(i % GUEST_PAGES) << 12 | (97 * i) % 4096, i, 0, 0]).collect()
+    (0..MANY).map(|i| [(i % GUEST_PAGES) * 4096 + (97 * i) % 4096, i, 0, 0]).collect()
 }
 
 fn page_maps(scene: &Scene) -> Vec<[u32; 4]> {

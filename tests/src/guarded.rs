@@ -26,7 +26,11 @@ impl<T: Copy + PartialEq + From<u8>> Guarded<T> {
     }
 
     pub fn pointer_mut(&mut self) -> *mut T {
-        self.all[self.start..self.start + self.length].as_mut_ptr()
+        self.content_mut().as_mut_ptr()
+    }
+
+    pub fn content_mut(&mut self) -> &mut [T] {
+        &mut self.all[self.start..self.start + self.length]
     }
 
     fn content(&self) -> &[T] {

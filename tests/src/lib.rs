@@ -10,8 +10,9 @@ pub mod library;
 pub mod lists;
 pub mod monitor;
 pub mod program;
-pub mod random;
 pub mod reference;
 pub mod runner;
 pub mod sha256;
-pub mod signature;
+
+pub use ::library::signature;
+pub use calls::random;

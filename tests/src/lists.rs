@@ -154,7 +154,7 @@ impl Lister {
     }
 
     fn anything(&mut self) -> Call {
-        let kind = Kind::ALL[1 + self.random.below(13)];
+        let kind = self.random.one_of(&Kind::ALL[1..]);
         let mut arguments = [0; 4];
         for argument in &mut arguments {
             *argument = match self.random.below(4) {

@@ -1,24 +1,7 @@
 //! The export of libsteps.a. Every buffer is lent between canaries; canaries and const buffers are looked at after each call.
 use crate::guarded::Guarded;
 use crate::monitor::{own, Store};
-
-#[link(name = "steps", kind = "static")]
-extern "C" {
-    fn pagemon_run(
-        memory: *mut u8,
-        memory_length: usize,
-        ledger: *mut u8,
-        ledger_length: usize,
-        golden: *const u8,
-        golden_length: usize,
-        records: *const u8,
-        records_length: usize,
-        answers: *mut u32,
-        answers_length: usize,
-        bytes: *mut u8,
-        bytes_length: usize,
-    ) -> usize;
-}
+use ::library::steps::pagemon_run;
 
 /// Obeys a list of records, and says how many it obeyed.
 pub fn run(store: &mut Store, records: &[u8], answers: &mut [u32], bytes: &mut [u8]) -> usize {
@@ -28,6 +11,7 @@ pub fn run(store: &mut Store, records: &[u8], answers: &mut [u32], bytes: &mut [
     let lent_records = Guarded::new(records, 4);
     let mut lent_answers = Guarded::new(answers, 1);
     let mut lent_bytes = Guarded::new(bytes, 5);
+    // SAFETY: every pointer is to a copy of its own.
     let obeyed = unsafe {
         pagemon_run(
             memory.pointer_mut(),

@@ -1,8 +1,8 @@
 //! The scripts of the gallery, by the reference and by the library, on what `pagemon` has.
-use records::{parse, Record};
+use records::parse;
 use std::fs;
 use std::path::{Path, PathBuf};
-use tests::monitor::{perform, Call, Kind, Monitor, Store};
+use tests::monitor::{perform, Call, Monitor, Store};
 use tests::program::{self, line};
 use tests::reference::Reference;
 
@@ -14,18 +14,17 @@ fn scripts() -> Vec<PathBuf> {
     paths
 }
 
-/// The line that `pagemon` prints for a record.
-fn answer(monitor: &dyn Monitor, record: &Record, store: &mut Store) -> String {
-    let call = Call::new(Kind::named(record.call.name()).unwrap(), record.arguments());
+/// The line that `pagemon` prints for a call.
+fn answer(monitor: &dyn Monitor, call: Call, store: &mut Store) -> String {
     line(call, perform(monitor, call, store)) + "\n"
 }
 
 fn answers_are_as_expected(monitor: &dyn Monitor) {
     assert!(!scripts().is_empty());
     for path in scripts() {
-        let records = parse(&fs::read(&path).unwrap()).unwrap();
+        let calls = parse(&fs::read(&path).unwrap()).unwrap();
         let mut store = program::store();
-        let output: String = records.iter().map(|record| answer(monitor, record, &mut store)).collect();
+        let output: String = calls.into_iter().map(|call| answer(monitor, call, &mut store)).collect();
         let expected = fs::read_to_string(path.with_extension("expected")).unwrap();
         assert_eq!(output, expected, "{}", path.display());
     }

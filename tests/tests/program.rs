@@ -7,7 +7,7 @@ use std::{env, fs, thread};
 use tests::cases::scene::Scene;
 use tests::lists::Lister;
 use tests::monitor::{Call, Kind};
-use tests::program::{bad_records, line, record, records, store, RECORD_BYTES, SAMPLE};
+use tests::program::{bad_records, line, records, store, RECORD_BYTES, SAMPLE};
 use tests::random::Random;
 use tests::reference::Reference;
 use Kind::*;
@@ -103,7 +103,7 @@ fn nothing_is_printed_of_nothing() {
 /// At the start, after a few records and on both sides of a batch's edge. Whatever follows a bad record is not obeyed.
 #[test]
 fn bad_records_end_the_run() {
-    let more = record(Call::new(Begin, &[0])).repeat(BATCH);
+    let more = Call::new(Begin, &[0]).record().repeat(BATCH);
     for earlier in [0, 1, 11, BATCH - 1, BATCH, 2 * BATCH - 1, 2 * BATCH] {
         let list = List::new(1, earlier);
         let expected = format!("{}bad {earlier}\n", list.lines);

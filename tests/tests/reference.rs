@@ -2,7 +2,7 @@
 use std::rc::Rc;
 use tests::bytes::word;
 use tests::cases::scene::*;
-use tests::monitor::{perform, Call, Kind, Monitor, BLOCK, NO_TABLE};
+use tests::monitor::{perform, Call, Functions, Kind, BLOCK, NO_TABLE};
 use tests::reference::entries::Level;
 use tests::reference::Reference;
 use tests::sha256::Sha256;

@@ -469,7 +469,7 @@ fn table_words(kind: Kind, comparer: &mut Comparer) -> Outcome {
         let section = FIRST << 12;
         words.extend((0..16).map(|k| section | 2 | (k & 1) << 4 | (k >> 1 & 3) << 10 | (k >> 3) << 15));
         words.extend([0, 2, 3, 5, 6, 7, 8, 9, 12, 13, 14, 16, 17, 18, 19].map(|bit| section | SECTION_READ ^ 1 << bit));
-        words.extend((0..12).map(|bit| ((FIRST + L2_BLOCK as u32) << 12) + 0x401 ^ 1 << bit));
+        words.extend((0..12).map(|bit| (((FIRST + L2_BLOCK as u32) << 12) + 0x401) ^ 1 << bit));
         words.extend([(0x100 << 12) + SECTION_READ, (0x200 << 12) + SECTION_READ, (0x400 << 12) + SECTION_READ]);
         words.extend([0x2FF, 0x300, 0x403, 0x405, 0x407, 0x408].map(|block| (block << 12) + 1));
     } else {

@@ -7,7 +7,7 @@ mod refusals;
 
 use crate::bytes::put_word;
 use crate::faults::{Change, Fault, Slip};
-use crate::monitor::{Call, Kind, Monitor, Store, NO_TABLE};
+use crate::monitor::{Call, Functions as Monitor, Kind, Store, NO_TABLE};
 use entries::{link_word, Entry, Level, Mapping};
 use guest::Walk;
 use ledger::{add_changes, put_type};

@@ -1,7 +1,6 @@
 //! `pagemon`'s answers in words.
-use crate::call::Call::{self, *};
-use crate::record::Record;
 use crate::script::{self, Line};
+use calls::Kind;
 
 /// How wide a line is before its answer.
 const WIDTH: usize = 24;
@@ -11,10 +10,10 @@ const WIDTH: usize = 24;
 pub fn explain(script: &[u8], output: &str) -> Result<String, Vec<String>> {
     let mut answers = output.lines();
     let mut explained = String::new();
-    for Line { number, text, record } in script::lines(script)? {
+    for Line { number, text, call } in script::lines(script)? {
         explained += text;
-        if let Some(record) = record {
-            let words = answer(&record, answers.next()).map_err(|what| vec![format!("line {number}: {what}")])?;
+        if let Some(call) = call {
+            let words = answer(call.kind, answers.next()).map_err(|what| vec![format!("line {number}: {what}")])?;
             explained += &format!("{:1$} => {words}", "", WIDTH.saturating_sub(text.len()));
         }
         explained += "\n";
@@ -26,63 +25,17 @@ pub fn explain(script: &[u8], output: &str) -> Result<String, Vec<String>> {
 }
 
 /// A line of `pagemon`'s output in words.
-fn answer(record: &Record, line: Option<&str>) -> Result<String, String> {
+fn answer(kind: Kind, line: Option<&str>) -> Result<String, String> {
     let line = line.ok_or("the output has no answer to this call")?;
-    let unfit = || format!("`{line}` is no answer to {}", record.call.name());
+    let unfit = || format!("`{line}` is no answer to {}", kind.name());
     let numbers: Vec<u32> = line.split(' ').map(str::parse).collect::<Result<_, _>>().map_err(|_| unfit())?;
-    let gives_byte = matches!(record.call, Read | Fetch);
     match numbers[..] {
-        [call, ..] if call != u32::from(record.call.byte()) => Err(unfit()),
-        [_, 0] if !gives_byte => Ok("0 accepted".to_string()),
-        [_, 0, byte] if gives_byte => Ok(format!("0 accepted, byte {byte}")),
-        [_, number] => meaning(record.call, number).map(|words| format!("{number} {words}")).ok_or_else(unfit),
+        [call, ..] if call != u32::from(kind.byte()) => Err(unfit()),
+        [_, 0] if !kind.gives_byte() => Ok("0 accepted".to_string()),
+        [_, 0, byte] if kind.gives_byte() => Ok(format!("0 accepted, byte {byte}")),
+        [_, number] => kind.words(number).map(|words| format!("{number} {words}")).ok_or_else(unfit),
         _ => Err(unfit()),
     }
-}
-
-/// What a refusal says of a call, if the call can be refused with it.
-fn meaning(call: Call, number: u32) -> Option<&'static str> {
-    Some(match (number, call) {
-        (1, Begin) => "a length or B breaks the rules",
-        (1, CreateL1 | CreateL2 | MapL1 | MapL2) => {
-            "a length or the stored B breaks the rules, or the golden image's length"
-        }
-        (1, _) => "a length or the stored B breaks the rules",
-        (2, CreateL1 | FreeL1 | MapL1 | Link | UnmapL1 | Switch) => "a block of the table is outside the region",
-        (2, CreateL2 | FreeL2 | MapL2 | UnmapL2) => "the block is outside the region",
-        (3, MapL1) => "the block is not a multiple of 4, or the target not of 256",
-        (3, CreateL1 | FreeL1 | Link | UnmapL1 | Switch) => "the block is not a multiple of 4",
-        (4, Link) => "the index or the table is too large",
-        (4, MapL1 | MapL2 | UnmapL1 | UnmapL2) => "the index is too large",
-        (5, CreateL1 | CreateL2) => "a block is not data",
-        (5, FreeL1 | MapL1 | Link | UnmapL1 | Switch) => "a block is not of type L1",
-        (5, FreeL2 | MapL2 | UnmapL2) => "the block is not of type L2",
-        (6, CreateL1 | CreateL2) => "a counter of a block is above 0",
-        (6, FreeL1) => "the table is active",
-        (6, FreeL2) => "the block is linked",
-        (7, MapL1 | MapL2 | Link | UnmapL1 | UnmapL2) => "the holder is executable",
-        (8, MapL1 | MapL2 | Link) => "the entry is not a fault",
-        (8, CreateL1 | CreateL2 | FreeL1 | FreeL2) => "an entry is not of an accepted form",
-        (8, UnmapL1 | UnmapL2) => "the entry is not of an accepted form",
-        (9, MapL1 | MapL2) => "the rights are above 7, or write or execute without read",
-        (10, CreateL1 | CreateL2) => {
-            "an entry leads outside the region, links to a block that is not L2, or writes to a table"
-        }
-        (10, FreeL1 | FreeL2) => "an entry leads outside the region",
-        (10, MapL1 | MapL2) => "the target is outside the region, a table to be written, or the holder to be executed",
-        (10, Link) => "the target is not an L2 block of the region",
-        (10, UnmapL1 | UnmapL2) => "the entry leads outside the region",
-        (11, CreateL1 | CreateL2 | MapL1 | MapL2) => "a block would be writable and executable",
-        (12, CreateL1 | CreateL2 | MapL1 | MapL2) => "a block to execute is not signed",
-        (13, CreateL1 | CreateL2 | FreeL1 | FreeL2 | MapL1 | MapL2 | Link | UnmapL1 | UnmapL2) => {
-            "a counter would leave 0 to 2^22"
-        }
-        (21, Read | Write | Fetch) => "no table is active",
-        (22, Read | Write | Fetch) => "the walk meets a fault",
-        (23, Read | Write | Fetch) => "the right is lacking",
-        (24, Read | Write | Fetch) => "the walk meets an entry that is not accepted or leads outside the region",
-        _ => return None,
-    })
 }
 
 #[cfg(test)]

@@ -1,38 +1,46 @@
 //! Readable lines to `pagemon`'s records and back.
-#![forbid(unsafe_code)]
-use records::{decode, encode, explain, parse};
+mod output;
+
+use calls::Kind;
+use records::{decode, explain, lines, parse};
 use std::io::{self, Read, Write};
 use std::process::ExitCode;
 
-const USAGE: &str = "\
+fn usage() -> String {
+    let calls = Kind::ALL.map(|kind| format!("  {} {}\n", kind.name(), kind.parameters().join(" ")));
+    format!(
+        "\
 usage: records encode < SCRIPT > RECORDS     lines to records
        records decode < RECORDS > SCRIPT     records to lines
        records explain SCRIPT < OUTPUT       the script with pagemon's answers, in words
+       records --help
 
-A line is a call and its arguments, decimal or 0x hexadecimal; # starts a comment:
-  begin B             create_l1 block     create_l2 block     free_l1 block       free_l2 block
-  map_l1 block index target rights        map_l2 block index target rights        link block index target table
-  unmap_l1 block index                    unmap_l2 block index                    switch block
-  read address        write address byte  fetch address
+A line is a call and its numbers, decimal or 0x hexadecimal; # starts a comment:
+{}
+A record has four words. Those that the call does not use may stand behind a bar, as in `begin 256 | 0x0 0x7`; without a bar they are 0.
 
-Exit status: 0; 1 if a line, a record or the output is wrong, or a file can't be read or written; 2 for a wrong command.";
+Exit status: 0; 1 if a line, a record or pagemon's output is wrong, or something can't be read or written; 2 for a wrong command.
+",
+        calls.concat()
+    )
+}
 
 /// What is to be written, and what was wrong.
 type Outcome = (Vec<u8>, Vec<String>);
 
 fn run(arguments: &[&str]) -> io::Result<Option<Outcome>> {
     Ok(Some(match arguments {
-        ["encode"] => whole(parse(&input()?).map(|records| encode(&records))),
+        ["encode"] => whole(parse(&input()?).map(|calls| calls::records(&calls))),
         ["decode"] => {
-            let (records, wrong) = decode(&input()?);
-            let lines: String = records.iter().map(|record| format!("{record}\n")).collect();
-            (lines.into_bytes(), wrong.into_iter().collect())
+            let (calls, wrong) = decode(&input()?);
+            (lines(&calls).into_bytes(), wrong.into_iter().collect())
         }
         ["explain", path] => {
             let script =
                 std::fs::read(path).map_err(|error| io::Error::new(error.kind(), format!("{path}: {error}")))?;
             whole(explain(&script, &String::from_utf8_lossy(&input()?)).map(String::into_bytes))
         }
+        ["--help"] => (usage().into_bytes(), Vec::new()),
         _ => return Ok(None),
     }))
 }
@@ -51,10 +59,9 @@ fn input() -> io::Result<Vec<u8>> {
     Ok(bytes)
 }
 
-fn output(bytes: &[u8]) -> io::Result<()> {
-    let mut out = io::stdout().lock();
-    out.write_all(bytes)?;
-    out.flush()
+/// Says what is wrong. Where that can't be written either, the exit status tells it.
+fn complain(message: &str) {
+    let _ = io::stderr().write_all(message.as_bytes());
 }
 
 fn main() -> ExitCode {
@@ -62,22 +69,22 @@ fn main() -> ExitCode {
     let arguments: Vec<&str> = arguments.iter().map(String::as_str).collect();
     let outcome = run(&arguments).and_then(|outcome| {
         if let Some((bytes, _)) = &outcome {
-            output(bytes)?;
+            output::write(bytes)?;
         }
         Ok(outcome)
     });
     match outcome {
         Ok(Some((_, wrong))) if wrong.is_empty() => ExitCode::SUCCESS,
         Ok(Some((_, wrong))) => {
-            wrong.iter().for_each(|line| eprintln!("{line}"));
+            complain(&wrong.iter().map(|line| format!("{line}\n")).collect::<String>());
             ExitCode::from(1)
         }
         Ok(None) => {
-            eprintln!("{USAGE}");
+            complain(&usage());
             ExitCode::from(2)
         }
         Err(error) => {
-            eprintln!("records: {error}");
+            complain(&format!("records: {error}\n"));
             ExitCode::from(1)
         }
     }

@@ -1,133 +1,75 @@
-//! A call with its words, and the 19 bytes that stand for it.
-use crate::call::Call;
-use std::fmt;
+//! Records to readable lines.
+use calls::{Call, RECORD_BYTES};
 
-const MARK: [u8; 2] = [0x50, 0x54];
-const BYTES: usize = 19;
-
-#[derive(Clone, Copy, PartialEq, Eq, Debug)]
-pub struct Record {
-    pub call: Call,
-    /// The arguments, then 0 for each word that the call doesn't use.
-    pub words: [u32; 4],
-}
-
-impl Record {
-    /// A call with as many arguments as it has parameters.
-    pub fn new(call: Call, arguments: &[u32]) -> Record {
-        let mut words = [0; 4];
-        words[..call.parameters().len()].copy_from_slice(arguments);
-        Record { call, words }
-    }
-
-    pub fn arguments(&self) -> &[u32] {
-        &self.words[..self.call.parameters().len()]
-    }
-}
-
-/// The readable line: addresses are hexadecimal, all else decimal.
-impl fmt::Display for Record {
-    fn fmt(&self, f: &mut fmt::Formatter) -> fmt::Result {
-        write!(f, "{}", self.call.name())?;
-        for (parameter, argument) in self.call.parameters().iter().zip(self.arguments()) {
-            match *parameter {
-                "address" => write!(f, " {argument:#x}")?,
-                _ => write!(f, " {argument}")?,
-            }
-        }
-        Ok(())
-    }
-}
-
-pub fn encode(records: &[Record]) -> Vec<u8> {
-    let mut bytes = Vec::with_capacity(BYTES * records.len());
-    for record in records {
-        bytes.extend(MARK);
-        bytes.push(record.call.byte());
-        bytes.extend(record.words.iter().flat_map(|word| word.to_le_bytes()));
-    }
-    bytes
-}
-
-/// The records up to the first wrong one, and what is wrong with that one. Records are numbered from 1.
-pub fn decode(bytes: &[u8]) -> (Vec<Record>, Option<String>) {
-    let mut records = Vec::new();
-    for chunk in bytes.chunks(BYTES) {
-        match read(chunk) {
-            Ok(record) => records.push(record),
+/// The calls of the records up to the first wrong one, and what is wrong with that one. Records are numbered from 1.
+pub fn decode(records: &[u8]) -> (Vec<Call>, Option<String>) {
+    let mut calls = Vec::new();
+    for record in records.chunks(RECORD_BYTES) {
+        match Call::of_record(record) {
+            Ok(call) => calls.push(call),
             Err(wrong) => {
-                let number = records.len() + 1;
-                return (records, Some(format!("record {number}: {wrong}")));
+                let number = calls.len() + 1;
+                return (calls, Some(format!("record {number}: {wrong}")));
             }
         }
     }
-    (records, None)
+    (calls, None)
 }
 
-fn read(bytes: &[u8]) -> Result<Record, String> {
-    if bytes.len() < BYTES {
-        return Err(format!("short: {} of {BYTES} bytes", bytes.len()));
-    }
-    if bytes[..2] != MARK {
-        return Err(format!("the mark is {:02x} {:02x}, not {:02x} {:02x}", bytes[0], bytes[1], MARK[0], MARK[1]));
-    }
-    let call = Call::of_byte(bytes[2]).ok_or_else(|| format!("there is no call {}", bytes[2]))?;
-    let words: Vec<u32> = bytes[3..].chunks(4).map(|b| u32::from_le_bytes([b[0], b[1], b[2], b[3]])).collect();
-    Ok(Record::new(call, &words[..call.parameters().len()]))
+/// The script of these calls.
+pub fn lines(calls: &[Call]) -> String {
+    calls.iter().map(|call| format!("{call}\n")).collect()
 }
 
 #[cfg(test)]
 mod tests {
     use super::*;
+    use crate::script::parse;
+    use calls::random::Random;
+    use calls::{records, Kind};
 
-    #[test]
-    fn bytes_of_a_record() {
-        let bytes = encode(&[Record::new(Call::MapL2, &[4, 5, 0x8877_6655, 3])]);
-        assert_eq!(bytes, [0x50, 0x54, 7, 4, 0, 0, 0, 5, 0, 0, 0, 0x55, 0x66, 0x77, 0x88, 3, 0, 0, 0]);
-    }
-
-    #[test]
-    fn spare_words_are_written_as_0_and_read_as_anything() {
-        let mut bytes = encode(&[Record::new(Call::Begin, &[256])]);
-        assert_eq!(bytes[7..], [0; 12]);
-        bytes[7..].fill(0xFF);
-        assert_eq!(decode(&bytes), (vec![Record::new(Call::Begin, &[256])], None));
+    /// What becomes of records as lines and then as records.
+    fn there_and_back(records: &[u8]) -> Vec<u8> {
+        let (calls, wrong) = decode(records);
+        assert_eq!(wrong, None);
+        calls::records(&parse(lines(&calls).as_bytes()).unwrap())
     }
 
     #[test]
     fn nothing_is_no_record() {
-        assert_eq!(encode(&[]), []);
         assert_eq!(decode(&[]), (vec![], None));
+        assert_eq!(there_and_back(&[]), []);
     }
 
-    /// What decode says of three good records and then these bytes.
-    fn wrong(bytes: &[u8]) -> String {
-        let good = [Record::new(Call::Begin, &[0]); 3];
-        let (records, wrong) = decode(&[encode(&good).as_slice(), bytes].concat());
-        assert_eq!(records, good);
-        wrong.unwrap()
+    /// Every call, with words that are 0 or anything.
+    #[test]
+    fn every_record_comes_back() {
+        let mut random = Random::new(1);
+        for kind in Kind::ALL {
+            for zeros in 0..16 {
+                let word = |place: usize| if zeros >> place & 1 == 1 { 0 } else { random.next() as u32 };
+                let call = Call::new(kind, &[0, 1, 2, 3].map(word));
+                assert_eq!(there_and_back(&call.record()), call.record(), "{call}");
+            }
+        }
+    }
+
+    #[test]
+    fn every_list_comes_back() {
+        let mut random = Random::new(2);
+        for length in [1, 2, 100, 3000] {
+            let bytes: Vec<u8> = (0..length)
+                .flat_map(|_| [vec![0x50, 0x54, random.one_of(&Kind::ALL).byte()], random.bytes(16)].concat())
+                .collect();
+            assert!(there_and_back(&bytes) == bytes, "{length} records");
+        }
     }
 
     #[test]
     fn wrong_records_are_numbered() {
-        let good = encode(&[Record::new(Call::Fetch, &[0])]);
-        let with = |at: usize, byte: u8| {
-            let mut bytes = good.clone();
-            bytes[at] = byte;
-            bytes
-        };
-        assert_eq!(wrong(&with(0, 0x51)), "record 4: the mark is 51 54, not 50 54");
-        assert_eq!(wrong(&with(1, 0x50)), "record 4: the mark is 50 50, not 50 54");
-        assert_eq!(wrong(&with(2, 0)), "record 4: there is no call 0");
-        assert_eq!(wrong(&with(2, 15)), "record 4: there is no call 15");
-        assert_eq!(wrong(&good[..18]), "record 4: short: 18 of 19 bytes");
-        assert_eq!(wrong(&good[..1]), "record 4: short: 1 of 19 bytes");
-    }
-
-    #[test]
-    fn addresses_are_hexadecimal() {
-        assert_eq!(Record::new(Call::Write, &[0x5000, 65]).to_string(), "write 0x5000 65");
-        assert_eq!(Record::new(Call::Read, &[0]).to_string(), "read 0x0");
-        assert_eq!(Record::new(Call::Link, &[0, 4095, 4, 3]).to_string(), "link 0 4095 4 3");
+        let good = [Call::new(Kind::Begin, &[0]); 3];
+        for (wrong, what) in [(vec![0; 18], "short: 18 of 19 bytes"), (vec![0; 19], "the mark is 00 00, not 50 54")] {
+            assert_eq!(decode(&[records(&good), wrong].concat()), (good.to_vec(), Some(format!("record 4: {what}"))));
+        }
     }
 }

@@ -1,6 +1,5 @@
 //! The readable lines.
-use crate::call::Call;
-use crate::record::Record;
+use calls::{Call, Kind, NUMBERS};
 
 /// A line of a script.
 pub struct Line<'a> {
@@ -8,12 +7,12 @@ pub struct Line<'a> {
     pub number: usize,
     /// As written; of a line with a call the call alone.
     pub text: &'a str,
-    pub record: Option<Record>,
+    pub call: Option<Call>,
 }
 
-/// The records of a script, or what is wrong with each of its wrong lines.
-pub fn parse(script: &[u8]) -> Result<Vec<Record>, Vec<String>> {
-    Ok(lines(script)?.into_iter().filter_map(|line| line.record).collect())
+/// The calls of a script, or what is wrong with each of its wrong lines.
+pub fn parse(script: &[u8]) -> Result<Vec<Call>, Vec<String>> {
+    Ok(lines(script)?.into_iter().filter_map(|line| line.call).collect())
 }
 
 /// The lines of a script, or what is wrong with each wrong one.
@@ -35,24 +34,45 @@ pub fn lines(script: &[u8]) -> Result<Vec<Line<'_>>, Vec<String>> {
 
 fn line(number: usize, bytes: &[u8]) -> Result<Line<'_>, String> {
     let text = std::str::from_utf8(bytes).map_err(|_| "not UTF-8".to_string())?;
-    let call = text.split('#').next().unwrap_or("").trim();
-    if call.is_empty() {
-        return Ok(Line { number, text: text.trim_end(), record: None });
+    let written = text.split('#').next().unwrap_or("").trim();
+    if written.is_empty() {
+        return Ok(Line { number, text: text.trim_end(), call: None });
     }
-    Ok(Line { number, text: call, record: Some(record(call)?) })
+    Ok(Line { number, text: written, call: Some(call(written)?) })
 }
 
-fn record(call: &str) -> Result<Record, String> {
-    let mut words = call.split_whitespace();
-    let name = words.next().unwrap_or("");
-    let call = Call::named(name).ok_or_else(|| format!("there is no call `{name}`"))?;
-    let arguments = words.map(number).collect::<Result<Vec<u32>, String>>()?;
-    let parameters = call.parameters();
-    if arguments.len() != parameters.len() {
-        let (given, taken) = (arguments.len(), parameters.len());
-        return Err(format!("{name} has {given} arguments, not {taken} ({})", parameters.join(" ")));
+fn call(written: &str) -> Result<Call, String> {
+    let (used, spare) = match written.split_once('|') {
+        Some((used, spare)) => (used, Some(spare)),
+        None => (written, None),
+    };
+    let (name, used) = used.split_once(char::is_whitespace).unwrap_or((used, ""));
+    let kind = Kind::named(name).ok_or_else(|| format!("there is no call `{name}`"))?;
+    let mut words = numbers(used)?;
+    if words.len() != kind.arity() {
+        let (given, taken, parameters) = (words.len(), kind.arity(), kind.parameters().join(" "));
+        return Err(format!("{name} has {given} arguments, not {taken} ({parameters})"));
     }
-    Ok(Record::new(call, &arguments))
+    if let Some(spare) = spare {
+        words.extend(spare_words(kind, spare)?);
+    }
+    Ok(Call::new(kind, &words))
+}
+
+/// What stands behind the bar.
+fn spare_words(kind: Kind, written: &str) -> Result<Vec<u32>, String> {
+    let (words, name) = (numbers(written)?, kind.name());
+    match NUMBERS - kind.arity() {
+        0 => Err(format!("{name} has no spare words")),
+        room if words.is_empty() || words.len() > room => {
+            Err(format!("{name} has {} spare words behind the bar, not 1 to {room}", words.len()))
+        }
+        _ => Ok(words),
+    }
+}
+
+fn numbers(words: &str) -> Result<Vec<u32>, String> {
+    words.split_whitespace().map(number).collect()
 }
 
 fn number(word: &str) -> Result<u32, String> {
@@ -69,28 +89,11 @@ fn number(word: &str) -> Result<u32, String> {
 #[cfg(test)]
 mod tests {
     use super::*;
-    use crate::record::{decode, encode};
-
-    /// Every call, with arguments that differ in all their bytes.
-    fn every_call() -> Vec<Record> {
-        let arguments = [0x0123_4567, 0x89AB_CDEF, 0xFFFF_FFFF, 0];
-        Call::ALL.into_iter().map(|call| Record::new(call, &arguments[..call.parameters().len()])).collect()
-    }
-
-    #[test]
-    fn lines_to_records_and_back() {
-        let script: String = every_call().iter().map(|record| format!("{record}\n")).collect();
-        let records = parse(script.as_bytes()).unwrap();
-        assert_eq!(records, every_call());
-        let (decoded, wrong) = decode(&encode(&records));
-        assert_eq!(wrong, None);
-        assert_eq!(decoded.iter().map(|record| format!("{record}\n")).collect::<String>(), script);
-    }
 
     #[test]
     fn comments_blanks_and_spaces() {
         let script = b"# a list\n\n   \t\n begin\t256 # B\r\n#read 0\nread 0x5000#";
-        assert_eq!(parse(script), Ok(vec![Record::new(Call::Begin, &[256]), Record::new(Call::Read, &[0x5000])]));
+        assert_eq!(parse(script), Ok(vec![Call::new(Kind::Begin, &[256]), Call::new(Kind::Read, &[0x5000])]));
         assert_eq!(parse(b""), Ok(vec![]));
     }
 
@@ -109,20 +112,34 @@ mod tests {
         }
     }
 
-    fn wrong(call: &str) -> String {
-        record(call).unwrap_err()
+    #[test]
+    fn spare_words() {
+        let begin = |words: &[u32]| Ok(Call::new(Kind::Begin, words));
+        assert_eq!(call("begin 256 | 0 0xA"), begin(&[256, 0, 10]));
+        assert_eq!(call("begin 256|1 2 3"), begin(&[256, 1, 2, 3]));
+        assert_eq!(call("write 0x10 65 | 7"), Ok(Call::new(Kind::Write, &[16, 65, 7])));
+    }
+
+    fn wrong(line: &str) -> String {
+        call(line).unwrap_err()
     }
 
     #[test]
     fn wrong_lines() {
         assert_eq!(wrong("bgin 0"), "there is no call `bgin`");
         assert_eq!(wrong("BEGIN 0"), "there is no call `BEGIN`");
-        assert_eq!(wrong("begin"), "begin has 0 arguments, not 1 (B)");
-        assert_eq!(wrong("begin 0 0"), "begin has 2 arguments, not 1 (B)");
+        assert_eq!(wrong("begin"), "begin has 0 arguments, not 1 (first_block)");
+        assert_eq!(wrong("begin 0 0"), "begin has 2 arguments, not 1 (first_block)");
         assert_eq!(wrong("map_l2 4 5 8"), "map_l2 has 3 arguments, not 4 (block index target rights)");
         assert_eq!(wrong("link 0 0 4 0 0"), "link has 5 arguments, not 4 (block index target table)");
         assert_eq!(wrong("read five"), "`five` is no number");
         assert_eq!(wrong("read 4294967296"), "4294967296 is above 2^32 - 1");
+        assert_eq!(wrong("begin 0 |"), "begin has 0 spare words behind the bar, not 1 to 3");
+        assert_eq!(wrong("begin 0 | 1 2 3 4"), "begin has 4 spare words behind the bar, not 1 to 3");
+        assert_eq!(wrong("begin 0 | 1 | 2"), "`|` is no number");
+        assert_eq!(wrong("begin | 1"), "begin has 0 arguments, not 1 (first_block)");
+        assert_eq!(wrong("link 0 0 4 0 | 0"), "link has no spare words");
+        assert_eq!(wrong("| 1"), "there is no call ``");
         assert_eq!(parse(b"read \xFF"), Err(vec!["line 1: not UTF-8".to_string()]));
     }
 

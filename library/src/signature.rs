@@ -1,4 +1,5 @@
-//! The exports of libsignature.a.
+//! The exports of libsignature.a (include/signature.h).
+
 #[link(name = "signature", kind = "static")]
 extern "C" {
     fn signature_sha256(message: *const u8, length: usize, digest: *mut u8);
@@ -7,10 +8,12 @@ extern "C" {
 
 pub fn sha256(message: &[u8]) -> [u8; 32] {
     let mut digest = [0; 32];
+    // SAFETY: the message is read, and 32 bytes are written.
     unsafe { signature_sha256(message.as_ptr(), message.len(), digest.as_mut_ptr()) };
     digest
 }
 
 pub fn is_signed(block: &[u8], golden: &[u8]) -> bool {
+    // SAFETY: both are only read.
     unsafe { signature_is_signed(block.as_ptr(), block.len(), golden.as_ptr(), golden.len()) }
 }

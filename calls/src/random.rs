@@ -1,12 +1,15 @@
-//! A small repeatable generator of test data.
+//! What calls and contents of buffers are drawn from.
+
+/// A small repeatable generator (splitmix64).
 pub struct Random(u64);
 
 impl Random {
-    pub fn new(seed: u64) -> Self {
+    pub fn new(seed: u64) -> Random {
         Random(seed)
     }
 
-    /// The next 64 bits (splitmix64).
+    /// The next 64 bits.
+    #[allow(clippy::should_implement_trait)]
     pub fn next(&mut self) -> u64 {
         self.0 = self.0.wrapping_add(0x9e37_79b9_7f4a_7c15);
         let mut z = self.0;
@@ -17,6 +20,10 @@ impl Random {
 
     pub fn below(&mut self, bound: usize) -> usize {
         (self.next() % bound as u64) as usize
+    }
+
+    pub fn one_of<T: Copy>(&mut self, choices: &[T]) -> T {
+        choices[self.below(choices.len())]
     }
 
     pub fn bytes(&mut self, length: usize) -> Vec<u8> {

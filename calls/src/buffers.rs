@@ -1,0 +1,46 @@
+//! The buffers that calls are lent.
+
+pub const BLOCK: usize = 4096;
+pub const LEDGER_HEAD: usize = 8;
+pub const LEDGER_RECORD: usize = 16;
+/// The active word when no table is in use.
+pub const NO_TABLE: u32 = 0xFFFF_FFFF;
+
+/// The ledger's length for a memory of so many blocks.
+pub const fn ledger_bytes(blocks: usize) -> usize {
+    LEDGER_HEAD + LEDGER_RECORD * blocks
+}
+
+/// What a call may do with a buffer.
+#[derive(Clone, Copy, PartialEq, Eq, Debug)]
+pub enum Access {
+    NotLent,
+    Reads,
+    Writes,
+}
+
+/// A value for each buffer that there is.
+#[derive(Clone, Copy, PartialEq, Eq, Debug)]
+pub struct PerBuffer<T> {
+    pub memory: T,
+    pub ledger: T,
+    pub golden: T,
+}
+
+impl<T> PerBuffer<T> {
+    pub fn map<U>(self, mut f: impl FnMut(T) -> U) -> PerBuffer<U> {
+        PerBuffer { memory: f(self.memory), ledger: f(self.ledger), golden: f(self.golden) }
+    }
+
+    pub fn as_mut(&mut self) -> PerBuffer<&mut T> {
+        PerBuffer { memory: &mut self.memory, ledger: &mut self.ledger, golden: &mut self.golden }
+    }
+
+    pub fn zip<U>(self, other: PerBuffer<U>) -> PerBuffer<(T, U)> {
+        PerBuffer {
+            memory: (self.memory, other.memory),
+            ledger: (self.ledger, other.ledger),
+            golden: (self.golden, other.golden),
+        }
+    }
+}

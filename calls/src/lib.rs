@@ -1,0 +1,16 @@
+//! The calls of the monitor as values: what tests, benchmarks and tools know of them, apart from their rules. A call is one row of the table in
+//! table.rs; the crate `library` makes its declaration and its invocation from the same row.
+#![forbid(unsafe_code)]
+
+mod buffers;
+mod call;
+mod kind;
+pub mod random;
+mod record;
+pub mod refusals;
+mod table;
+
+pub use buffers::{ledger_bytes, Access, PerBuffer, BLOCK, LEDGER_HEAD, LEDGER_RECORD, NO_TABLE};
+pub use call::{Call, NUMBERS};
+pub use kind::Kind;
+pub use record::{records, MARK, RECORD_BYTES};
