@@ -5,11 +5,13 @@ const ARCHIVES: &str = concat!(env!("CARGO_MANIFEST_DIR"), "/../target/staticlib
 
 fn main() {
     println!("cargo::rustc-link-search=native={ARCHIVES}");
-    for name in ["monitor", "signature", "steps"] {
-        let archive = format!("{ARCHIVES}/lib{name}.a");
-        println!("cargo::rerun-if-changed={archive}");
-        if !Path::new(&archive).exists() {
-            println!("cargo::error=there is no target/staticlib/lib{name}.a: run `rt staticlib {name}`");
-        }
+    let names = ["signature", "monitor", "steps"];
+    for name in names {
+        println!("cargo::rerun-if-changed={ARCHIVES}/lib{name}.a");
+    }
+    let missing = names.iter().filter(|name| !Path::new(&format!("{ARCHIVES}/lib{name}.a")).exists());
+    let commands: Vec<String> = missing.map(|name| format!("rt staticlib {name}")).collect();
+    if !commands.is_empty() {
+        println!("cargo::error=target/staticlib lacks an archive: run `{}`", commands.join(" && "));
     }
 }

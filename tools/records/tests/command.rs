@@ -2,6 +2,9 @@
 use calls::Kind;
 use std::io::Write;
 use std::process::{Command, Stdio};
+use std::sync::mpsc::channel;
+use std::thread;
+use std::time::Duration;
 
 /// Exit status, standard output and standard error.
 fn records(arguments: &[&str], input: &[u8]) -> (i32, Vec<u8>, String) {
@@ -67,14 +70,16 @@ fn a_wrong_command_prints_the_usage_as_an_error() {
     }
 }
 
-/// Its input stays open.
+/// It does not wait for its input, which stays open.
 #[test]
 fn help_comes_at_once() {
     let mut command = Command::new(env!("CARGO_BIN_EXE_records"));
-    let mut child =
-        command.arg("--help").stdin(Stdio::piped()).stdout(Stdio::piped()).stderr(Stdio::piped()).spawn().unwrap();
+    let streams = command.arg("--help").stdin(Stdio::piped()).stdout(Stdio::piped()).stderr(Stdio::piped());
+    let mut child = streams.spawn().unwrap();
     let stdin = child.stdin.take();
-    let output = child.wait_with_output().unwrap();
+    let (sender, ended) = channel();
+    thread::spawn(move || sender.send(child.wait_with_output()));
+    let output = ended.recv_timeout(Duration::from_secs(20)).expect("it waits").unwrap();
     drop(stdin);
     let usage = String::from_utf8(output.stdout).unwrap();
     assert_eq!((output.status.code(), output.stderr), (Some(0), Vec::new()));
@@ -86,10 +91,10 @@ fn help_comes_at_once() {
 
 /// Every command, with its output redirected by a shell: exit status and standard error.
 fn redirected(redirection: &str) -> [(i32, String); 4] {
-    let path = concat!(env!("CARGO_TARGET_TMPDIR"), "/redirected.txt");
-    std::fs::write(path, "begin 1\n").unwrap();
+    let sample = concat!(env!("CARGO_MANIFEST_DIR"), "/../../gallery/sample.txt");
+    let answers = include_bytes!("../../../gallery/sample.expected");
     let commands: [(&[&str], &[u8]); 4] =
-        [(&["encode"], b"begin 0"), (&["decode"], &BEGIN), (&["explain", path], b"1 1\n"), (&["--help"], b"")];
+        [(&["encode"], b"begin 0"), (&["decode"], &BEGIN), (&["explain", sample], answers), (&["--help"], b"")];
     commands.map(|(arguments, input)| {
         let script = format!("exec \"$0\" \"$@\" {redirection}");
         let (status, _, error) =
