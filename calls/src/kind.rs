@@ -35,7 +35,7 @@ macro_rules! kinds {
         }
 
         impl Kind {
-            pub const ALL: [Kind; [$($byte),*].len()] = [$(Kind::$kind),*];
+            pub const ALL: [Kind; [$(stringify!($kind)),*].len()] = [$(Kind::$kind),*];
 
             /// The name of the export in C.
             pub fn export(self) -> &'static str {
@@ -85,15 +85,14 @@ macro_rules! kinds {
             }
 
             /// Its parameters as C declares them.
-            pub fn declaration(self) -> Vec<String> {
-                let parameters: &[&str] = match self {
+            pub fn declaration(self) -> &'static [&'static str] {
+                match self {
                     $(Kind::$kind => &[
                         $(concat!(pointer!($access u8), stringify!($buffer)), concat!("size_t ", stringify!($buffer), "_length"),)*
                         $(concat!("uint32_t ", stringify!($number)),)*
                         $($(concat!(pointer!(mut $type), stringify!($output)),)*)?
                     ],)*
-                };
-                parameters.iter().map(|parameter| parameter.to_string()).collect()
+                }
             }
         }
     };
