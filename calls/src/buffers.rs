@@ -27,6 +27,12 @@ pub struct PerBuffer<T> {
     pub golden: T,
 }
 
+impl<T: Copy> PerBuffer<T> {
+    pub fn all(value: T) -> PerBuffer<T> {
+        PerBuffer { memory: value, ledger: value, golden: value }
+    }
+}
+
 impl<T> PerBuffer<T> {
     pub fn map<U>(self, mut f: impl FnMut(T) -> U) -> PerBuffer<U> {
         PerBuffer { memory: f(self.memory), ledger: f(self.ledger), golden: f(self.golden) }

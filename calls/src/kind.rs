@@ -60,7 +60,7 @@ macro_rules! kinds {
 
             /// What it may do with each buffer.
             pub fn access(self) -> PerBuffer<Access> {
-                let mut access = PerBuffer { memory: Access::NotLent, ledger: Access::NotLent, golden: Access::NotLent };
+                let mut access = PerBuffer::all(Access::NotLent);
                 match self {
                     $(Kind::$kind => {
                         $(access.$buffer = access!($access);)*
