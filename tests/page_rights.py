@@ -4,6 +4,7 @@
     python3 tests/page_rights.py > crates/rights_table/stdout
 
 Written from document 01 alone: it reads neither the table of the code nor the definitions of the proofs. Its steps have the clauses of docs/RULES.md.
+tests/tests/reference.rs compares what it writes with that file.
 """
 
 READ, WRITE, EXECUTE = 1, 2, 4

@@ -1,6 +1,8 @@
 //! Candidate and reference side by side: the answer, the byte given, and every byte of memory and ledger.
 use crate::cases::Case;
+use crate::faults::{Fault, Seeded};
 use crate::monitor::{perform, Call, Given, Kind, Monitor, Store, BLOCK};
+use crate::outcome::Outcomes;
 use crate::reference::Reference;
 use std::collections::{BTreeMap, BTreeSet};
 use std::fmt;
@@ -34,16 +36,28 @@ impl fmt::Display for Difference {
 pub type Outcome<T = ()> = Result<T, Difference>;
 
 pub struct Comparer<'a> {
-    pub candidate: &'a dyn Monitor,
-    pub reference: &'a Reference,
-    /// Are all refusals that apply noted, not only the answer?
-    pub pairs: bool,
+    candidate: &'a dyn Monitor,
+    reference: &'a dyn Monitor,
+    /// Says all refusals that apply, not only the answer.
+    reasons: Option<&'a Reference>,
+    /// Faults that no case has shown yet.
+    pub unfound: Vec<Fault>,
     pub tallies: BTreeMap<Kind, Tally>,
 }
 
 impl<'a> Comparer<'a> {
-    pub fn new(candidate: &'a dyn Monitor, reference: &'a Reference, pairs: bool) -> Self {
-        Comparer { candidate, reference, pairs, tallies: BTreeMap::new() }
+    pub fn new(candidate: &'a dyn Monitor, reference: &'a dyn Monitor) -> Self {
+        Comparer { candidate, reference, reasons: None, unfound: Vec::new(), tallies: BTreeMap::new() }
+    }
+
+    /// Looks for these faults. The reference is the copy into which they are seeded, without a fault.
+    pub fn with_faults(candidate: &'a dyn Monitor, faults: Vec<Fault>) -> Self {
+        Comparer { unfound: faults, ..Comparer::new(candidate, &Seeded { fault: None }) }
+    }
+
+    /// Notes pairs of refusals too.
+    pub fn with_pairs(candidate: &'a dyn Monitor, reference: &'a Reference) -> Self {
+        Comparer { reasons: Some(reference), ..Comparer::new(candidate, reference) }
     }
 
     /// Runs one case on both and compares; the case's own expectation is held against the candidate.
@@ -60,7 +74,8 @@ impl<'a> Comparer<'a> {
 
     /// Runs a call on both and compares. The store is then what the candidate left.
     pub fn step(&mut self, name: &str, call: Call, store: &mut Store) -> Outcome<Given> {
-        let reasons = if self.pairs { self.reference.reasons(call, store) } else { Vec::new() };
+        let reasons = self.reasons.map_or(Vec::new(), |reference| reference.reasons(call, store));
+        let before = (!self.unfound.is_empty()).then(|| store.clone());
         let mut other = store.clone();
         let expected = perform(self.reference, call, &mut other);
         let given = catch_unwind(AssertUnwindSafe(|| perform(self.candidate, call, store)))
@@ -70,10 +85,25 @@ impl<'a> Comparer<'a> {
         tally.accepted += usize::from(given.answer == 0);
         tally.answers.insert(given.answer);
         tally.pairs.extend(reasons.iter().skip(1).map(|other| (reasons[0], *other)));
-        match compared(given, expected, store, &other) {
-            Some(what) => Err(difference(name, call, what)),
-            None => Ok(given),
+        if let Some(what) = compared(given, expected, store, &other) {
+            return Err(difference(name, call, what));
         }
+        if let Some(before) = before {
+            self.drop_found(call, given, &before, store);
+        }
+        Ok(given)
+    }
+
+    /// Drops the faults with which the call would have left something else.
+    fn drop_found(&mut self, call: Call, given: Given, before: &Store, left: &Store) {
+        let right = Seeded { fault: None }.outcome(call, before.into());
+        self.unfound.retain(|fault| {
+            let outcome = Seeded { fault: Some(*fault) }.outcome(call, before.into());
+            outcome == right || {
+                let mut other = before.clone();
+                compared(given, outcome.apply(&mut other), left, &other).is_none()
+            }
+        });
     }
 }
 

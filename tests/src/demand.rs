@@ -2,6 +2,7 @@
 //! Nothing is shared with the reference but SHA-256.
 use crate::hasher::digest;
 use crate::monitor::{Call, Given, Kind, Store, BLOCK};
+use std::fmt;
 
 /// What an entry gives: its blocks, and write, execute or a link.
 struct Gives {
@@ -41,8 +42,27 @@ fn mapping(first: usize, count: usize, ap: u8, may_execute: bool) -> Option<Give
     (ap != b'-').then_some(Gives { first, count, write: ap == b'w', execute, link: false })
 }
 
+fn answer_allowed(given: Given) -> Result<(), String> {
+    match given.answer {
+        13 | 24 => Err(format!("the answer is {}", given.answer)),
+        _ => Ok(()),
+    }
+}
+
 fn word(bytes: &[u8], index: usize) -> u32 {
     (0..4).map(|k| u32::from(bytes[4 * index + k]) << (8 * k)).sum()
+}
+
+/// A clause of lists that a step breaks, and how.
+pub struct Breach {
+    pub clause: u32,
+    what: String,
+}
+
+impl fmt::Display for Breach {
+    fn fmt(&self, f: &mut fmt::Formatter) -> fmt::Result {
+        write!(f, "lists {}: {}", self.clause, self.what)
+    }
 }
 
 /// What the steps and answers since the last accepted begin tell.
@@ -67,7 +87,12 @@ impl Told {
             return;
         }
         let at = call.arguments[0] as usize;
-        let mut set = |count: usize, code: u8| self.tables[at - self.first..at - self.first + count].fill(code);
+        let position = at.wrapping_sub(self.first);
+        let mut set = |count: usize, code: u8| {
+            if let Some(blocks) = self.tables.get_mut(position..position.saturating_add(count)) {
+                blocks.fill(code);
+            }
+        };
         match call.kind {
             Kind::Begin => {
                 self.first = at;
@@ -84,21 +109,20 @@ impl Told {
     }
 
     /// Holds a step against lists 7 to 12. `before` is the memory that the step was lent.
-    pub fn step(&mut self, call: Call, given: Given, before: &[u8], store: &Store) -> Result<(), String> {
-        if matches!(given.answer, 13 | 24) {
-            return Err(format!("the answer is {}", given.answer));
-        }
+    pub fn step(&mut self, call: Call, given: Given, before: &[u8], store: &Store) -> Vec<Breach> {
+        let mut held = vec![(12, answer_allowed(given))];
         if matches!(call.kind, Kind::Read | Kind::Write | Kind::Fetch) {
-            self.tables_unaltered(before, &store.memory)?;
+            held.push((10, self.tables_unaltered(before, &store.memory)));
         }
         if call.kind == Kind::Fetch && given.answer == 0 {
-            self.fetched(call.arguments[0] as usize, given.byte, store)?;
+            held.push((11, self.fetched(call.arguments[0] as usize, given.byte, store)));
         }
         self.note(call, given);
         let counts = self.counts(&store.memory);
-        self.ledger_agrees(&counts, &store.ledger)?;
-        self.never_both(&counts)?;
-        self.executable_is_signed(&counts, store)
+        held.push((9, self.ledger_agrees(&counts, &store.ledger)));
+        held.push((7, self.never_both(&counts)));
+        held.push((8, self.executable_is_signed(&counts, store)));
+        held.into_iter().filter_map(|(clause, outcome)| outcome.err().map(|what| Breach { clause, what })).collect()
     }
 
     fn tables_unaltered(&self, before: &[u8], after: &[u8]) -> Result<(), String> {
@@ -158,17 +182,22 @@ impl Told {
         store.golden.chunks_exact(32).any(|known| known == digest)
     }
 
-    /// The block and offset at which a walk from the last switched table ends.
+    /// The block and offset at which a walk from the last switched table ends, if it ends in the region.
     pub fn walk(&self, address: usize, memory: &[u8]) -> Option<(usize, usize)> {
-        let table = self.switched? - self.first;
-        let entry = word(&memory[BLOCK * table..BLOCK * (table + 4)], address >> 20);
+        let table = self.position(self.switched?)?;
+        let entry = word(memory.get(BLOCK * table..BLOCK * (table + 4))?, address >> 20);
         let gives = l1_gives(entry)?;
         if !gives.link {
-            return Some((gives.first + (address >> 12) % 256 - self.first, address % BLOCK));
+            return Some((self.position(gives.first + (address >> 12) % 256)?, address % BLOCK));
         }
-        let place = BLOCK * (gives.first - self.first) + 1024 * (entry as usize >> 10 & 3);
+        let place = BLOCK * self.position(gives.first)? + 1024 * (entry as usize >> 10 & 3);
         let page = l2_gives(word(&memory[place..place + 1024], (address >> 12) % 256))?;
-        Some((page.first - self.first, address % BLOCK))
+        Some((self.position(page.first)?, address % BLOCK))
+    }
+
+    /// The block's number in the region, counted from 0.
+    fn position(&self, block: usize) -> Option<usize> {
+        block.checked_sub(self.first).filter(|position| *position < self.tables.len())
     }
 
     /// Lists 11; and the block in which the walk ends is executable and not writable.

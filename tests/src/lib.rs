@@ -9,6 +9,7 @@ pub mod hasher;
 pub mod library;
 pub mod lists;
 pub mod monitor;
+pub mod outcome;
 pub mod program;
 pub mod reference;
 pub mod runner;

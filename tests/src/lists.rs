@@ -5,32 +5,46 @@ use crate::compare::{difference, Comparer, Outcome};
 use crate::demand::Told;
 use crate::monitor::{perform, Call, Given, Kind, Monitor, BLOCK};
 use crate::random::Random;
-use std::collections::VecDeque;
+use std::collections::{BTreeSet, VecDeque};
 use Kind::*;
 
-/// Many short lists in small regions, a few in regions with room for sections.
+/// Seed, blocks and steps of each list: many short ones in small regions, a few in regions with room for sections.
+fn lists() -> impl Iterator<Item = (u64, usize, usize)> {
+    let small = (0..60).map(|seed| (seed, 8 + Random::new(seed).below(20), 300));
+    small.chain((100..106).map(|seed| (seed, [260, 512, 520][seed as usize % 3], 150)))
+}
+
+/// Compares every step, and holds lists 7 to 12 against it.
 pub fn run(comparer: &mut Comparer) -> Outcome {
-    for seed in 0..60 {
-        let blocks = 8 + Random::new(seed).below(20);
-        list(comparer, seed, blocks, 300)?;
-    }
-    for seed in 100..106 {
-        list(comparer, seed, [260, 512, 520][seed as usize % 3], 150)?;
+    for (seed, blocks, steps) in lists() {
+        let mut lister = Lister::new(seed, blocks);
+        for step in 0..=steps {
+            let call = lister.next();
+            let before = lister.scene.store.memory.clone();
+            let name = format!("list {seed} of {blocks} blocks, step {step}");
+            let given = comparer.step(&name, call, &mut lister.scene.store)?;
+            if let Some(breach) = lister.told.step(call, given, &before, &lister.scene.store).first() {
+                return Err(difference(&name, call, breach.to_string()));
+            }
+        }
     }
     Ok(())
 }
 
-fn list(comparer: &mut Comparer, seed: u64, blocks: usize, steps: usize) -> Outcome {
-    let mut lister = Lister::new(seed, blocks);
-    for step in 0..=steps {
-        let call = lister.next();
-        let before = lister.scene.store.memory.clone();
-        let name = format!("list {seed} of {blocks} blocks, step {step}");
-        let given = comparer.step(&name, call, &mut lister.scene.store)?;
-        let told = lister.told.step(call, given, &before, &lister.scene.store);
-        told.map_err(|what| difference(&name, call, what))?;
-    }
-    Ok(())
+/// For each list, the clauses of lists 7 to 12 that the monitor breaks. It is compared with nothing.
+pub fn broken_by(monitor: &dyn Monitor) -> impl Iterator<Item = BTreeSet<u32>> + '_ {
+    lists().map(|(seed, blocks, steps)| {
+        let mut lister = Lister::new(seed, blocks);
+        let mut broken = BTreeSet::new();
+        for _ in 0..=steps {
+            let call = lister.next();
+            let before = lister.scene.store.memory.clone();
+            let given = perform(monitor, call, &mut lister.scene.store);
+            let breaches = lister.told.step(call, given, &before, &lister.scene.store);
+            broken.extend(breaches.iter().map(|breach| breach.clause));
+        }
+        broken
+    })
 }
 
 /// Draws the steps of a list. The first is a begin.

@@ -1,48 +1,82 @@
-//! Lists 7 to 12 find unsafe monitors by themselves: candidate and reference carry the same fault, so that they never differ.
-use tests::compare::Comparer;
-use tests::faults::{Change, Fault, Slip};
+//! Lists 7 to 12 find unsafe monitors by themselves: each monitor here is compared with nothing.
+use std::collections::BTreeSet;
+use tests::faults::{self, Seeded};
 use tests::lists;
-use tests::monitor::Kind::{self, *};
 use tests::reference::Reference;
 
-fn found(call: Kind, change: Change) -> bool {
-    let mut monitor = Reference::new();
-    monitor.set_fault(Some(Fault { call, change }));
-    lists::run(&mut Comparer::new(&monitor, &monitor, false)).is_err()
+/// Faults, each with the clauses that it breaks in the first list in which it breaks any. Every clause is broken alone by one of them.
+const UNSAFE: [(&str, &[u32]); 38] = [
+    ("create_l2: 11 is not tested", &[7]),
+    ("create_l2: 11 compares new entries with the old counters only", &[7]),
+    ("map_l2: write onto x above 0 is taken", &[7]),
+    ("map_l2: execute onto w above 0 is taken", &[7, 8, 11]),
+    ("map_l2: the holder may be executed", &[8]),
+    ("map_l2: 12 is not tested", &[8, 11]),
+    ("create_l2: 12 is not tested", &[8, 11]),
+    ("map_l2: 7 is not tested", &[8, 11]),
+    ("begin: begin keeps w", &[9]),
+    ("begin: begin keeps x", &[9]),
+    ("begin: begin keeps l", &[9]),
+    ("map_l2: 11 is not tested", &[9]),
+    ("unmap_l2: no counter is changed", &[9]),
+    ("free_l2: no counter is changed", &[9]),
+    ("create_l2: no counter is changed", &[9, 12]),
+    ("map_l2: no counter is changed", &[7, 9, 11, 12]),
+    ("map_l1: a section counts on its first block", &[7, 8, 9, 12]),
+    ("link: l is not changed", &[9, 12]),
+    ("map_l2: a writable target may have any type", &[10]),
+    ("write: write needs read only", &[8, 10, 11]),
+    ("fetch: the byte given is 0", &[11]),
+    ("fetch: fetch needs read only", &[11]),
+    ("fetch: the walk takes the wrong L2 index", &[11]),
+    ("begin: begin keeps the active word", &[11]),
+    ("switch: a switch from another table stores nothing", &[11]),
+    ("free_l1: 6 is not tested", &[12]),
+    ("create_l1: a counter of 2 is refused", &[12]),
+    ("create_l2: a counter of 2 is refused", &[12]),
+    ("free_l1: a counter that ends at 0 is refused", &[12]),
+    ("free_l2: a counter that ends at 0 is refused", &[12]),
+    ("map_l1: a counter of 2 is refused", &[12]),
+    ("map_l2: a counter of 2 is refused", &[12]),
+    ("link: a counter of 2 is refused", &[12]),
+    ("unmap_l1: a counter that ends at 0 is refused", &[12]),
+    ("unmap_l2: a counter that ends at 0 is refused", &[12]),
+    ("read: a fault on the walk gives 24", &[12]),
+    ("write: a fault on the walk gives 24", &[12]),
+    ("fetch: a fault on the walk gives 24", &[12]),
+];
+
+fn monitor(fault: &str) -> Seeded {
+    Seeded { fault: Some(faults::named(fault).unwrap_or_else(|| panic!("no fault '{fault}'"))) }
 }
 
 #[test]
 fn unsafe_monitors_are_found() {
-    let faults = [
-        (MapL2, Change::Dropped(7)),
-        (MapL2, Change::Dropped(11)),
-        (MapL2, Change::Dropped(12)),
-        (CreateL2, Change::Dropped(11)),
-        (CreateL2, Change::Dropped(12)),
-        (MapL2, Change::Slip(Slip::WritableAnyType)),
-        (MapL2, Change::Slip(Slip::CountersKept)),
-        (MapL1, Change::Slip(Slip::SectionCountedOnce)),
-        (UnmapL2, Change::Slip(Slip::CountersKept)),
-        (CreateL2, Change::Slip(Slip::CountersKept)),
-        (CreateL2, Change::Slip(Slip::MixOldOnly)),
-        (FreeL2, Change::Slip(Slip::CountersKept)),
-        (Link, Change::Slip(Slip::LinkUncounted)),
-        (Fetch, Change::Slip(Slip::FetchNeedsRead)),
-        (Fetch, Change::Slip(Slip::WalkL2Index)),
-        (Begin, Change::Slip(Slip::BeginKeepsActive)),
-        (Begin, Change::Slip(Slip::BeginKeepsX)),
-    ];
-    let missed: Vec<String> = faults
-        .into_iter()
-        .filter(|(call, change)| !found(*call, *change))
-        .map(|(call, change)| Fault { call, change }.to_string())
-        .collect();
-    assert!(missed.is_empty(), "not found: {missed:#?}");
+    for (fault, clauses) in UNSAFE {
+        let broken = lists::broken_by(&monitor(fault)).find(|broken| !broken.is_empty()).unwrap_or_default();
+        assert_eq!(broken, BTreeSet::from_iter(clauses.iter().copied()), "{fault}");
+    }
+    assert!((7..=12).all(|clause| UNSAFE.iter().any(|(_, clauses)| *clauses == [clause])));
+}
+
+/// Faults that no list shows by anything but an answer of 13 or 24.
+#[test]
+fn answers_alone_are_found() {
+    for fault in [
+        "map_l2: a counter of 2 is refused",
+        "unmap_l2: a counter that ends at 0 is refused",
+        "read: a fault on the walk gives 24",
+        "fetch: a fault on the walk gives 24",
+    ] {
+        assert_eq!(
+            lists::broken_by(&monitor(fault)).flatten().collect::<BTreeSet<u32>>(),
+            BTreeSet::from([12]),
+            "{fault}"
+        );
+    }
 }
 
 #[test]
 fn the_plain_reference_keeps_the_demand() {
-    let monitor = Reference::new();
-    let outcome = lists::run(&mut Comparer::new(&monitor, &monitor, false));
-    assert!(outcome.is_ok(), "{}", outcome.err().map_or(String::new(), |difference| difference.to_string()));
+    assert!(lists::broken_by(&Reference::new()).all(|broken| broken.is_empty()));
 }

@@ -1,20 +1,18 @@
 //! The reference held against cases that the rules state outright: the numbers of entries 13 to 16, edges, and the ends of bounds.
+use std::fs;
+use std::path::Path;
+use std::process::Command;
 use std::rc::Rc;
 use tests::bytes::word;
 use tests::cases::scene::*;
-use tests::monitor::{perform, Call, Functions, Kind, BLOCK, NO_TABLE};
-use tests::reference::entries::Level;
+use tests::monitor::{perform, Call, Given, Kind, BLOCK, NO_TABLE};
+use tests::reference::entries::{page_number, Level};
 use tests::reference::Reference;
 use tests::sha256::Sha256;
 use Kind::*;
 
 fn answer(scene: &mut Scene, kind: Kind, arguments: &[u32]) -> u32 {
     perform(&Reference::new(), Call::new(kind, arguments), &mut scene.store).answer
-}
-
-/// The number of an L2 entry by its low bits (entries 13).
-fn page_number(low: u32) -> u32 {
-    Reference::new().page_number(low)
 }
 
 #[test]
@@ -52,6 +50,18 @@ fn all_page_rights() {
         };
         assert_eq!(page_number(low), number, "low bits {low:#x}");
     }
+}
+
+/// What the program rights_table must print is what the rule gives, written twice: by tests/page_rights.py and by the reference.
+#[test]
+fn stored_page_rights() {
+    let tests = Path::new(env!("CARGO_MANIFEST_DIR"));
+    let stored = fs::read_to_string(tests.join("../crates/rights_table/stdout")).unwrap();
+    let script = Command::new("python3").arg(tests.join("page_rights.py")).output().unwrap();
+    assert!(script.status.success(), "{}", String::from_utf8_lossy(&script.stderr));
+    assert_eq!(String::from_utf8(script.stdout).unwrap(), stored);
+    let digits: Vec<u32> = stored.lines().flat_map(str::chars).map(|digit| digit.to_digit(16).unwrap()).collect();
+    assert_eq!(digits, (0..1024).map(page_number).collect::<Vec<u32>>());
 }
 
 fn typed(blocks: usize) -> Scene {
@@ -201,13 +211,15 @@ fn guest_bytes() {
     scene.activate(0);
     scene.put(0, 0, scene.link(4, 0));
     scene.put(4, 5, scene.mapping(8, PAGE_WRITE));
-    let reference = Reference::new();
-    let (memory, ledger) = (Rc::make_mut(&mut scene.store.memory), &scene.store.ledger);
-    assert_eq!(reference.write(memory, ledger, 0x5001, 0x1234_5678), 0);
-    assert_eq!(&memory[8 * BLOCK..8 * BLOCK + 4], [0, 0x78, 0, 0]);
-    assert_eq!(reference.read(memory, ledger, 0x5001), (0, 0x78));
-    assert_eq!(reference.fetch(memory, ledger, 0x5001), (23, 0));
-    assert_eq!(reference.read(memory, ledger, 0x6001), (22, 0));
+    let mut given = |kind, arguments: &[u32]| {
+        let Given { answer, byte } = perform(&Reference::new(), Call::new(kind, arguments), &mut scene.store);
+        (answer, byte)
+    };
+    assert_eq!(given(Write, &[0x5001, 0x1234_5678]), (0, 0));
+    assert_eq!(given(Read, &[0x5001]), (0, 0x78));
+    assert_eq!(given(Fetch, &[0x5001]), (23, 0));
+    assert_eq!(given(Read, &[0x6001]), (22, 0));
+    assert_eq!(scene.store.memory[8 * BLOCK..8 * BLOCK + 4], [0, 0x78, 0, 0]);
 }
 
 #[test]

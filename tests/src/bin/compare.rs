@@ -2,13 +2,14 @@
 //!
 //!   compare [--calls begin,switch,...] [--fault K | --faults | --list-faults]
 //!
-//! Without `--calls`, all calls are compared. Without a fault, the two must agree, and every number that a call can answer must have been reached. With `--fault K` the reference carries the
-//! K-th seeded fault and the two must differ: the status is then 1. `--faults` runs every fault of the calls and fails if one is not found.
+//! Without `--calls`, all calls are compared. Without a fault, the two must agree, and every number that a call can answer must have been reached. With
+//! `--fault K` the library is compared with a copy of the reference that has the K-th seeded fault, and the two must differ: the status is then 1.
+//! `--faults` runs every fault of the calls and fails if one is not found, or if the copy without a fault differs from the library.
 use std::process::ExitCode;
 use std::time::Instant;
 use tests::cases;
 use tests::compare::{Comparer, Tally};
-use tests::faults::{self, Fault};
+use tests::faults::{self, Fault, Seeded};
 use tests::library::Library;
 use tests::monitor::{Kind, Monitor};
 use tests::reference::Reference;
@@ -78,9 +79,7 @@ fn list(faults: &[Fault], calls: &[Kind]) {
 
 /// One fault: its call's cases, with the first difference printed.
 fn differs_not(fault: Fault) -> bool {
-    let mut reference = Reference::new();
-    reference.set_fault(Some(fault));
-    match cases::run(fault.call, &mut Comparer::new(&Library::default(), &reference, false)) {
+    match cases::run(fault.call, &mut Comparer::new(&Library::default(), &Seeded { fault: Some(fault) })) {
         Ok(()) => {
             println!("{fault}: no difference");
             true
@@ -92,16 +91,21 @@ fn differs_not(fault: Fault) -> bool {
     }
 }
 
+/// Runs every call's cases once, and looks in each of them for all faults of the call.
 fn find_all(faults: &[Fault], calls: &[Kind]) -> bool {
     let start = Instant::now();
     let candidate = Library::default();
-    let mut reference = Reference::new();
     let (mut run, mut missed) = (0, 0);
-    for (number, fault) in (1..).zip(faults).filter(|(_, fault)| calls.contains(&fault.call)) {
-        reference.set_fault(Some(*fault));
-        run += 1;
-        if cases::run(fault.call, &mut Comparer::new(&candidate, &reference, false)).is_ok() {
-            missed += 1;
+    for call in calls {
+        let own: Vec<Fault> = faults.iter().copied().filter(|fault| fault.call == *call).collect();
+        run += own.len();
+        let mut comparer = Comparer::with_faults(&candidate, own);
+        if let Err(difference) = cases::run(*call, &mut comparer) {
+            println!("compare: without a fault: {difference}");
+            return false;
+        }
+        missed += comparer.unfound.len();
+        for (number, fault) in (1..).zip(faults).filter(|(_, fault)| comparer.unfound.contains(fault)) {
             println!("fault {number} is not found: {fault}");
         }
     }
@@ -111,7 +115,7 @@ fn find_all(faults: &[Fault], calls: &[Kind]) -> bool {
 
 fn agree(calls: &[Kind]) -> bool {
     let (candidate, reference) = (Library::default(), Reference::new());
-    let mut comparer = Comparer::new(&candidate, &reference, true);
+    let mut comparer = Comparer::with_pairs(&candidate, &reference);
     let mut passed = true;
     for kind in calls {
         let start = Instant::now();
@@ -125,9 +129,9 @@ fn agree(calls: &[Kind]) -> bool {
 }
 
 /// Lists of steps need every call.
-fn lists(candidate: &dyn Monitor, reference: &Reference) -> bool {
+fn lists(candidate: &dyn Monitor, reference: &dyn Monitor) -> bool {
     let start = Instant::now();
-    let mut comparer = Comparer::new(candidate, reference, false);
+    let mut comparer = Comparer::new(candidate, reference);
     if let Err(difference) = tests::lists::run(&mut comparer) {
         println!("compare: {difference}");
         return false;

@@ -17,6 +17,7 @@ pub fn run(kind: Kind, comparer: &mut Comparer) -> Outcome {
     guest.reasons(comparer)?;
     guest.section_words(comparer)?;
     guest.section_places(comparer)?;
+    guest.address_ends(comparer)?;
     guest.random(comparer)
 }
 
@@ -262,6 +263,28 @@ impl Guest {
         Ok(())
     }
 
+    /// Both ends of the address range, of an L1 entry's part of it and of a page, with all rights and with none.
+    fn address_ends(&self, comparer: &mut Comparer) -> Outcome {
+        let offsets = [0, 1, 0xFFF, 0x1000, 0xF_EFFF, 0xF_F000, 0xF_FFFE, 0xF_FFFF];
+        for index in [0, 1, 4094, 4095] {
+            for rights in [7, 0] {
+                for (name, scene) in ends(index, rights == 7) {
+                    for offset in offsets {
+                        let address = (index as u32) << 20 | offset;
+                        let mapped = name == "a section" || !(0x1000..0xF_F000).contains(&offset);
+                        let answer = if mapped { self.answer(rights) } else { 22 };
+                        let name = format!("{name} at L1 index {index}");
+                        comparer.check(self.expect(&scene, &name, address, answer))?;
+                    }
+                }
+            }
+            let empty = tables(16);
+            comparer.check(self.expect(&empty, "no entry", (index as u32) << 20, 22))?;
+            comparer.check(self.expect(&empty, "no entry", (index as u32) << 20 | 0xF_FFFF, 22))?;
+        }
+        Ok(())
+    }
+
     /// Tables of words that are near to accepted ones, in a small region and in one with room for a section.
     fn random(&self, comparer: &mut Comparer) -> Outcome {
         let mut random = Random::new(23);
@@ -282,6 +305,25 @@ impl Guest {
         }
         Ok(())
     }
+}
+
+/// A section at this L1 index, and a link there to the first or the last L2 table, whose entries 0 and 255 are pages. All blocks in which a walk can end
+/// by these differ.
+fn ends(index: usize, all: bool) -> [(&'static str, Scene); 3] {
+    let mut random = Random::new(24);
+    let mut section = tables(256);
+    [0, 1, 254, 255].into_iter().for_each(|position| section.fill(position, &mut random));
+    section.put(4, index, section.mapping(0, if all { SECTION_ALL } else { SECTION_NONE }));
+    let linked = |table: usize| {
+        let mut scene = tables(16);
+        scene.put(4, index, scene.link(8, table as u32));
+        for (entry, position) in [(0, 10), (255, 11)] {
+            let low = if all { PAGE_ALL } else { PAGE_NONE };
+            scene.put(8, 256 * table + entry, scene.mapping(position, low));
+        }
+        scene
+    };
+    [("a section", section), ("the first L2 table", linked(0)), ("the last L2 table", linked(3))]
 }
 
 /// A word that is likely to be an entry with a place in the region, of either level.

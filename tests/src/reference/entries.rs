@@ -1,6 +1,5 @@
-//! What a word of a table means, and what word is written.
-use super::View;
-use crate::faults::Slip;
+//! RULES, entries: what a word of a table means, and what word is written.
+use std::ops::Range;
 
 #[derive(Clone, Copy, PartialEq, Eq, Debug)]
 pub enum Level {
@@ -9,7 +8,7 @@ pub enum Level {
 }
 
 impl Level {
-    /// The type word of the table's blocks.
+    /// The type of the table's blocks (ledger 4).
     pub fn code(self) -> u32 {
         match self {
             Level::L1 => 1,
@@ -17,7 +16,7 @@ impl Level {
         }
     }
 
-    /// Blocks of a table.
+    /// Blocks of a table (entries 1 and 2).
     pub fn blocks(self) -> u64 {
         match self {
             Level::L1 => 4,
@@ -28,16 +27,9 @@ impl Level {
     pub fn entries(self) -> u32 {
         1024 * self.blocks() as u32
     }
-
-    /// Blocks that a mapping of this level covers: a section's or a page's.
-    pub fn covers(self) -> u64 {
-        match self {
-            Level::L1 => 256,
-            Level::L2 => 1,
-        }
-    }
 }
 
+/// entries 12
 #[derive(Clone, Copy, PartialEq, Eq, Debug)]
 pub struct Rights {
     pub read: bool,
@@ -51,6 +43,7 @@ pub struct Mapping {
     pub rights: Rights,
 }
 
+/// entries 4: four kinds, or not accepted.
 #[derive(Clone, Copy, PartialEq, Eq, Debug)]
 pub enum Entry {
     Fault,
@@ -60,15 +53,133 @@ pub enum Entry {
     Page(Mapping),
 }
 
+/// Blocks that must lie in the region.
+#[derive(Clone, Copy, PartialEq, Eq, PartialOrd, Ord, Debug)]
+pub struct Place {
+    pub first: u64,
+    pub count: u64,
+}
+
+impl Place {
+    pub fn blocks(self) -> Range<u64> {
+        self.first..self.first + self.count
+    }
+}
+
+/// Bits high..low of a word, as a number.
+pub fn bits(word: u32, high: u32, low: u32) -> u32 {
+    word >> low & ((1 << (high - low + 1)) - 1)
+}
+
+pub fn decode(level: Level, word: u32) -> Entry {
+    match level {
+        Level::L1 => l1_entry(word),
+        Level::L2 => l2_entry(word),
+    }
+}
+
+fn l1_entry(word: u32) -> Entry {
+    match bits(word, 1, 0) {
+        // entries 5
+        0b00 => Entry::Fault,
+        // entries 6
+        0b01 if bits(word, 9, 2) == 0 => Entry::Link { block: u64::from(word >> 12), table: bits(word, 11, 10) },
+        // entries 7
+        0b10 if bits(word, 19, 18) == 0 && bits(word, 9, 5) == 0 => section(word),
+        _ => Entry::Unaccepted,
+    }
+}
+
+/// entries 7
+fn section(word: u32) -> Entry {
+    let (ap, xn) = (bits(word, 15, 15) << 2 | bits(word, 11, 10), bits(word, 4, 4));
+    let first = 256 * u64::from(bits(word, 31, 20));
+    rights(ap, xn).map_or(Entry::Unaccepted, |rights| Entry::Section(Mapping { first, rights }))
+}
+
+fn l2_entry(word: u32) -> Entry {
+    match bits(word, 1, 0) {
+        // entries 5
+        0b00 => Entry::Fault,
+        0b01 => Entry::Unaccepted,
+        _ => page(word),
+    }
+}
+
+/// entries 8
+fn page(word: u32) -> Entry {
+    let (ap, xn) = (bits(word, 9, 9) << 2 | bits(word, 5, 4), bits(word, 0, 0));
+    let first = u64::from(bits(word, 31, 12));
+    rights(ap, xn).map_or(Entry::Unaccepted, |rights| Entry::Page(Mapping { first, rights }))
+}
+
+fn rights(ap: u32, xn: u32) -> Option<Rights> {
+    let (read, write) = match ap {
+        // entries 9
+        0b100 => return None,
+        // entries 10
+        0b010 | 0b110 | 0b111 => (true, false),
+        0b011 => (true, true),
+        _ => (false, false),
+    };
+    // entries 11
+    Some(Rights { read, write, execute: read && xn == 0 })
+}
+
+/// The rights in a call's argument (entries 12).
+pub fn asked(rights: u32) -> Rights {
+    Rights { read: rights & 1 != 0, write: rights & 2 != 0, execute: rights & 4 != 0 }
+}
+
+/// The number of an L2 entry with these bits 9..0 (entries 13).
+pub fn page_number(low: u32) -> u32 {
+    match decode(Level::L2, low) {
+        Entry::Fault => 0,
+        Entry::Page(Mapping { rights, .. }) => {
+            8 + u32::from(rights.read) + 2 * u32::from(rights.write) + 4 * u32::from(rights.execute)
+        }
+        _ => 7,
+    }
+}
+
+/// entries 15
+pub fn mapping_word(level: Level, target: u32, rights: u32) -> u32 {
+    let low = match (level, rights) {
+        (Level::L2, 0) => 0x01F,
+        (Level::L2, 1) => 0x02F,
+        (Level::L2, 3) => 0x03F,
+        (Level::L2, _) => 0x02E,
+        (Level::L1, 0) => 0x41E,
+        (Level::L1, 1) => 0x81E,
+        (Level::L1, 3) => 0xC1E,
+        (Level::L1, _) => 0x80E,
+    };
+    target << 12 | low
+}
+
+/// entries 16
+pub fn link_word(block: u32, table: u32) -> u32 {
+    block << 12 | table << 10 | 1
+}
+
 impl Entry {
-    /// First block and number of blocks of the entry's place, if it has one.
-    pub fn place(self) -> Option<(u64, u64)> {
+    /// entries 17
+    pub fn place(self) -> Option<Place> {
         match self {
             Entry::Fault | Entry::Unaccepted => None,
-            Entry::Link { block, .. } => Some((block, 1)),
-            Entry::Section(mapping) => Some((mapping.first, 256)),
-            Entry::Page(mapping) => Some((mapping.first, 1)),
+            Entry::Link { block, .. } => Some(Place { first: block, count: 1 }),
+            Entry::Section(mapping) => Some(Place { first: mapping.first, count: 256 }),
+            Entry::Page(mapping) => Some(Place { first: mapping.first, count: 1 }),
         }
+    }
+
+    /// entries 18
+    pub fn covers(self) -> Range<u64> {
+        self.place().map_or(0..0, Place::blocks)
+    }
+
+    pub fn links(self) -> bool {
+        matches!(self, Entry::Link { .. })
     }
 
     pub fn writable(self) -> bool {
@@ -77,118 +188,5 @@ impl Entry {
 
     pub fn executable(self) -> bool {
         matches!(self, Entry::Section(m) | Entry::Page(m) if m.rights.execute)
-    }
-}
-
-fn bit(word: u32, n: u32) -> u32 {
-    word >> n & 1
-}
-
-/// The rights in a call's argument.
-pub fn asked(rights: u32) -> Rights {
-    Rights { read: rights & 1 != 0, write: rights & 2 != 0, execute: rights & 4 != 0 }
-}
-
-pub fn link_word(block: u32, table: u32) -> u32 {
-    (block << 12) + (table << 10) + 1
-}
-
-impl View<'_> {
-    pub fn decode(&self, level: Level, word: u32) -> Entry {
-        match level {
-            Level::L1 => self.l1_entry(word),
-            Level::L2 => self.l2_entry(word),
-        }
-    }
-
-    fn l1_entry(&self, word: u32) -> Entry {
-        match word & 3 {
-            0 if word != 0 && self.slip(Slip::FaultOnlyZero) => Entry::Unaccepted,
-            0 => Entry::Fault,
-            1 if word & 0x3FC == 0 || self.slip(Slip::LinkBitsFree) => {
-                Entry::Link { block: u64::from(word >> 12), table: word >> 10 & 3 }
-            }
-            2 => self.section(word),
-            3 if self.slip(Slip::PrivilegedSections) => self.section(word),
-            _ => Entry::Unaccepted,
-        }
-    }
-
-    fn section(&self, word: u32) -> Entry {
-        let mut zeros = 1 << 19 | 1 << 18 | 1 << 9 | 0b1111 << 5;
-        for (slip, bits) in [
-            (Slip::Bit19Free, 1 << 19),
-            (Slip::Bit18Free, 1 << 18),
-            (Slip::Bit9Free, 1 << 9),
-            (Slip::DomainFree, 0b1111 << 5),
-        ] {
-            if self.slip(slip) {
-                zeros &= !bits;
-            }
-        }
-        if self.slip(Slip::SectionFreeBits) {
-            zeros |= 1 << 17 | 1 << 16 | 0b111 << 12 | 0b11 << 2;
-        }
-        let ap2 = if self.slip(Slip::SectionAp2Ignored) { 0 } else { bit(word, 15) };
-        let xn = if self.slip(Slip::SectionXnBit3) { bit(word, 3) } else { bit(word, 4) };
-        match self.rights(ap2 << 2 | bit(word, 11) << 1 | bit(word, 10), xn) {
-            Some(rights) if word & zeros == 0 => Entry::Section(Mapping { first: u64::from(word >> 20 << 8), rights }),
-            _ => Entry::Unaccepted,
-        }
-    }
-
-    fn l2_entry(&self, word: u32) -> Entry {
-        match word & 3 {
-            0 if word != 0 && self.slip(Slip::FaultOnlyZero) => Entry::Unaccepted,
-            0 => Entry::Fault,
-            1 if !self.slip(Slip::LargePages) => Entry::Unaccepted,
-            _ if word & 0xDCC != 0 && self.slip(Slip::PageFreeBits) => Entry::Unaccepted,
-            _ => {
-                let ap2 = if self.slip(Slip::PageAp2Ignored) { 0 } else { bit(word, 9) };
-                let xn = if self.slip(Slip::PageXnBit4) { bit(word, 4) } else { bit(word, 0) };
-                match self.rights(ap2 << 2 | bit(word, 5) << 1 | bit(word, 4), xn) {
-                    Some(rights) => Entry::Page(Mapping { first: u64::from(word >> 12), rights }),
-                    None => Entry::Unaccepted,
-                }
-            }
-        }
-    }
-
-    /// What AP and XN let the guest do; nothing is accepted with AP 100.
-    fn rights(&self, ap: u32, xn: u32) -> Option<Rights> {
-        let (read, write) = match ap {
-            0b000 => (self.slip(Slip::Ap000Reads), false),
-            0b001 => (self.slip(Slip::Ap001Reads), false),
-            0b101 => (self.slip(Slip::Ap101Reads), false),
-            0b010 => (true, self.slip(Slip::Ap010Writes)),
-            0b110 => (!self.slip(Slip::Ap110Nothing), false),
-            0b111 => (!self.slip(Slip::Ap111Nothing), self.slip(Slip::Ap111Writes)),
-            0b011 => (true, !self.slip(Slip::Ap011ReadsOnly)),
-            _ if self.slip(Slip::Ap100Accepted) => (false, false),
-            _ => return None,
-        };
-        let execute = (read || self.slip(Slip::ExecuteWithoutRead)) && (xn == 0 || self.slip(Slip::XnIgnored));
-        Some(Rights { read, write, execute })
-    }
-
-    /// The word that a map writes for a page or section at this block.
-    pub fn mapping_word(&self, level: Level, first: u32, rights: u32) -> u32 {
-        let low = match (level, rights) {
-            (Level::L2, 0) => 0x01F,
-            (Level::L2, 1) if self.slip(Slip::WrittenXnOff) => 0x02E,
-            (Level::L2, 1) if self.slip(Slip::WrittenCacheOff) => 0x023,
-            (Level::L2, 1) => 0x02F,
-            (Level::L2, 3) if self.slip(Slip::WrittenAp) => 0x02F,
-            (Level::L2, 3) => 0x03F,
-            (Level::L2, _) => 0x02E,
-            (Level::L1, 0) => 0x41E,
-            (Level::L1, 1) if self.slip(Slip::WrittenXnOff) => 0x80E,
-            (Level::L1, 1) if self.slip(Slip::WrittenCacheOff) => 0x812,
-            (Level::L1, 1) => 0x81E,
-            (Level::L1, 3) if self.slip(Slip::WrittenAp) => 0x81E,
-            (Level::L1, 3) => 0xC1E,
-            (Level::L1, _) => 0x80E,
-        };
-        (first << 12) + low
     }
 }

@@ -1,110 +1,113 @@
-//! The guest's accesses: the walk from the active table to a byte.
-use super::entries::{Entry, Level, Mapping};
+//! RULES, switch and guest.
+use super::entries::{bits, Entry, Level, Rights};
+use super::ledger::ACTIVE;
+use super::refusals::{refusals, Refusal};
 use super::View;
-use crate::bytes::word;
-use crate::faults::Slip;
 use crate::monitor::{Kind, BLOCK};
+use crate::outcome::Outcome;
 
-/// Where a walk ends: at a refusal, or at a byte of memory with the mapping that led to it.
-pub enum Walk {
-    Refused(u32),
-    Ended { at: usize, mapping: Mapping },
+/// Where a walk ends: a byte of memory, and the rights of the last entry.
+pub struct End {
+    at: usize,
+    rights: Rights,
 }
 
 impl View<'_> {
-    /// Refusal 21.
-    pub fn no_active_table(&self) -> bool {
+    /// switch list
+    pub fn switch_refusals(&self) -> Vec<Refusal<'_>> {
+        refusals![
+            1 => self.region_wrong(),
+            2 => self.table_outside(),
+            3 => self.table_unaligned(),
+            5 => self.table_not(self.level().code()),
+        ]
+    }
+
+    /// switch leaves
+    pub fn switch_leaves(&self, outcome: &mut Outcome) {
+        outcome.ledger.push((ACTIVE, self.arguments[0]));
+    }
+
+    /// guest list; a walk has one of the last three at most
+    pub fn guest_refusals(&self) -> Vec<Refusal<'_>> {
+        refusals![
+            1 => self.region_wrong(),
+            21 => self.no_active_table(),
+            22 => self.access() == Err(22),
+            23 => self.access() == Err(23),
+            24 => self.access() == Err(24),
+        ]
+    }
+
+    /// guest 21
+    fn no_active_table(&self) -> bool {
         let active = u64::from(self.active());
-        let count = if self.slip(Slip::ActiveFirstOnly) { 1 } else { 4 };
-        let inside = if self.slip(Slip::ActiveWraps) {
-            active >= self.first() && active + 4 & 0xFFFF_FFFF <= self.first() + self.blocks()
-        } else {
-            self.inside(active, count)
-        };
-        let typed = (0..4).all(|k| self.type_of(active + k) == 1) || !self.slip(Slip::ActiveTypeRead);
-        !inside || !typed || active % 4 != 0 && !self.slip(Slip::ActiveUnaligned)
+        active % 4 != 0 || !self.inside(active, 4)
     }
 
-    pub fn walk(&self, address: u32) -> Walk {
-        let shift = if self.slip(Slip::WalkL1Index) { 21 } else { 20 };
-        let entry = self.entry(Level::L1, u64::from(self.active()), address >> shift);
-        match (self.met(entry, address), entry) {
-            (Some(refusal), _) => Walk::Refused(refusal),
-            (None, Entry::Section(mapping)) => {
-                let mask = if self.slip(Slip::SectionOffset) { 0xFFF } else { 0xF_FFFF };
-                Walk::Ended { at: self.offset(mapping.first) + (address & mask) as usize, mapping }
-            }
-            (None, Entry::Link { block, table }) => self.walk_l2(block, table, address),
-            (None, _) => unreachable!("an L1 entry is no page"),
+    fn address(&self) -> u32 {
+        self.arguments[0]
+    }
+
+    /// guest walk; a walk that is refused gives the number
+    fn walk(&self) -> Result<End, u32> {
+        let entry = self.entry(Level::L1, u64::from(self.active()), bits(self.address(), 31, 20));
+        match self.met(entry)? {
+            Entry::Link { block, table } => self.walk_on(block, table),
+            section => Ok(self.end(section, bits(self.address(), 19, 12))),
         }
     }
 
-    fn walk_l2(&self, block: u64, table: u32, address: u32) -> Walk {
-        if self.slip(Slip::LinkTypeRead) && self.type_of(block) != 2 {
-            return Walk::Refused(24);
-        }
-        let table = if self.slip(Slip::WalkL2Table) { 0 } else { table };
-        let shift = if self.slip(Slip::WalkL2Index) { 13 } else { 12 };
-        let entry = self.entry(Level::L2, block, 256 * table + (address >> shift & 0xFF));
-        match (self.met(entry, address), entry) {
-            (Some(refusal), _) => Walk::Refused(refusal),
-            (None, Entry::Page(mapping)) => {
-                Walk::Ended { at: self.offset(mapping.first) + address as usize % BLOCK, mapping }
-            }
-            (None, _) => unreachable!("an L2 entry is a page"),
-        }
+    fn walk_on(&self, block: u64, table: u32) -> Result<End, u32> {
+        let entry = self.entry(Level::L2, block, 256 * table + bits(self.address(), 19, 12));
+        Ok(self.end(self.met(entry)?, 0))
     }
 
-    /// What the walk is refused with at this entry.
-    fn met(&self, entry: Entry, address: u32) -> Option<u32> {
-        match entry {
-            Entry::Unaccepted if self.slip(Slip::BadFormIsFault) => Some(22),
-            Entry::Unaccepted => Some(24),
-            Entry::Fault => Some(22),
-            Entry::Section(mapping) if self.slip(Slip::SectionOwnBlock) => {
-                let block = mapping.first + u64::from(address >> 12 & 0xFF);
-                (!self.inside(block, 1)).then_some(24)
-            }
-            _ if self.outside(entry) && self.slip(Slip::OutsideIsFault) => Some(22),
-            _ => self.outside(entry).then_some(24),
+    fn met(&self, entry: Entry) -> Result<Entry, u32> {
+        // guest 24
+        if entry == Entry::Unaccepted || self.outside(entry) {
+            return Err(24);
         }
+        // guest 22
+        if entry == Entry::Fault {
+            return Err(22);
+        }
+        Ok(entry)
     }
 
-    /// The walk's refusal, also at its end (guest 23).
-    pub fn access(&self) -> Walk {
-        match self.walk(self.arguments[0]) {
-            Walk::Ended { mapping, .. } if !self.allowed(mapping) => Walk::Refused(23),
-            walk => walk,
-        }
+    /// guest end, in this one of the blocks that the entry covers
+    fn end(&self, entry: Entry, number: u32) -> End {
+        let (Entry::Section(mapping) | Entry::Page(mapping)) = entry else { unreachable!("a walk ends at a mapping") };
+        let block = mapping.first + u64::from(number);
+        End { at: self.offset(block) + self.address() as usize % BLOCK, rights: mapping.rights }
     }
 
-    fn allowed(&self, mapping: Mapping) -> bool {
-        let rights = mapping.rights;
-        match self.kind {
-            Kind::Write if self.slip(Slip::WriteNeedsRead) => rights.read,
+    /// The walk, and the right at its end (guest 23).
+    fn access(&self) -> Result<(), u32> {
+        let rights = self.walk()?.rights;
+        let allowed = match self.kind {
             Kind::Write => rights.write,
-            Kind::Fetch if self.slip(Slip::FetchNeedsRead) => rights.read,
             Kind::Fetch => rights.execute,
-            _ if self.slip(Slip::ReadNeedsWrite) => rights.write,
             _ => rights.read,
+        };
+        if allowed {
+            Ok(())
+        } else {
+            Err(23)
         }
     }
 
-    /// The byte that a read or fetch gives.
-    pub fn byte_given(&self, answer: u32) -> u8 {
-        let give = answer == 0 || answer == 23 && self.slip(Slip::RefusedByteGiven);
-        match self.walk(self.arguments[0]) {
-            Walk::Ended { at, .. } if give && !self.slip(Slip::ByteNotGiven) => self.memory.get(at).map_or(0, |b| *b),
-            _ => 0,
+    /// guest byte
+    pub fn guest_byte(&self, outcome: &mut Outcome) {
+        if let Ok(End { at, .. }) = self.walk() {
+            outcome.byte = self.memory.get(at).map_or(0, |byte| *byte);
         }
     }
 
-    /// The word of a table at an index, as an entry.
-    pub fn entry(&self, level: Level, table: u64, index: u32) -> Entry {
-        self.decode(level, self.word_at(table, index))
-    }
-
-    pub fn word_at(&self, table: u64, index: u32) -> u32 {
-        word(self.memory, self.offset(table) + 4 * index as usize)
+    /// guest leaves
+    pub fn guest_leaves(&self, outcome: &mut Outcome) {
+        if let Ok(End { at, .. }) = self.walk() {
+            outcome.memory.push((at, self.arguments[1] as u8));
+        }
     }
 }
