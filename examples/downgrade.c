@@ -1,7 +1,8 @@
 /*
  * What a hypervisor does where the monitor refuses a mapping that would make a block writable and executable (docs/RULES.md, map 11): it maps
  * with less, notes the right that it held back, and when the guest then faults on it, downgrades the mapping in the way and tries again. One
- * page, mapped by two entries of one L2 block, goes from writable to executable and back (policies 9).
+ * page, mapped by two entries of one L2 block, goes from writable to executable and back (policies 9). Where the second try is refused too, the
+ * guest keeps what it had.
  */
 #include "pagemon.h"
 #include "signature.h"
@@ -9,7 +10,7 @@
 #include <stdio.h>
 #include <string.h>
 
-enum { BLOCKS = 16, TABLE = 0, PAGES = 4, CODE = 8, WRITER = 5, RUNNER = 6 };
+enum { BLOCKS = 16, TABLE = 0, PAGES = 4, CODE = 8, WRITER = 5, RUNNER = 6, PATCH = 0x2F };
 
 static uint8_t memory[BLOCKS * PAGEMON_BLOCK_BYTES], ledger[PAGEMON_LEDGER_BYTES(BLOCKS)], golden[PAGEMON_DIGEST_BYTES];
 
@@ -35,21 +36,32 @@ static uint32_t map_or_less(struct mapping *m)
     return answer == PAGEMON_CLASH ? map(m, PAGEMON_READ) : answer;
 }
 
-/* Gives a mapping other rights. The TLB is to be cleared of it before the guest runs on. */
+/* Gives a mapping other rights or, where these are refused, those that it had. The TLB is to be cleared of it before the guest runs on. */
 static uint32_t remap(struct mapping *m, uint32_t rights)
 {
     uint32_t answer = pagemon_unmap_l2(REGION, PAGES, m->index);
     if (answer != PAGEMON_ACCEPTED)
         return answer;
-    m->held = 0;
-    return map(m, rights);
+    answer = map(m, rights);
+    if (answer != PAGEMON_ACCEPTED)
+        map(m, m->held); /* accepted: it stood there a moment ago */
+    return answer;
 }
 
-/* The guest faulted on a right that was held back: the mapping in the way is downgraded, and the right given. */
+/*
+ * The guest faulted on a right that was held back: the mapping in the way is downgraded, and the right given. Where it is refused, both
+ * mappings are again as they were.
+ */
 static uint32_t resume(struct mapping *wanted, struct mapping *in_the_way)
 {
+    uint32_t had = in_the_way->held;
     uint32_t answer = remap(in_the_way, PAGEMON_READ);
-    return answer == PAGEMON_ACCEPTED ? remap(wanted, wanted->asked) : answer;
+    if (answer != PAGEMON_ACCEPTED)
+        return answer;
+    answer = remap(wanted, wanted->asked);
+    if (answer != PAGEMON_ACCEPTED)
+        remap(in_the_way, had);
+    return answer;
 }
 
 static int failures = 0;
@@ -78,9 +90,13 @@ int main(void)
     expect("  the guest fetches: a prefetch abort", pagemon_fetch(REGION, 0x6000, &byte), PAGEMON_RIGHT_LACKING);
     expect("resume execute: the writer is downgraded", resume(&runner, &writer), PAGEMON_ACCEPTED);
     expect("  the guest fetches", pagemon_fetch(REGION, 0x6000, &byte), PAGEMON_ACCEPTED);
-    expect("  the guest writes: a data abort", pagemon_write(REGION, 0x5000, 0), PAGEMON_RIGHT_LACKING);
+    expect("  the guest writes: a data abort", pagemon_write(REGION, 0x5000, PATCH), PAGEMON_RIGHT_LACKING);
     expect("resume write: the runner is downgraded", resume(&writer, &runner), PAGEMON_ACCEPTED);
-    expect("  the guest writes", pagemon_write(REGION, 0x5000, 0), PAGEMON_ACCEPTED);
-    expect("resume execute: the block is no longer signed", resume(&runner, &writer), PAGEMON_UNSIGNED);
+    expect("  the guest writes", pagemon_write(REGION, 0x5000, PATCH), PAGEMON_ACCEPTED);
+    expect("resume execute: refused, the block is no longer signed", resume(&runner, &writer), PAGEMON_UNSIGNED);
+    expect("  the guest reads as before", pagemon_read(REGION, 0x6000, &byte), PAGEMON_ACCEPTED);
+    failures += byte != PATCH;
+    expect("  the guest fetches: a prefetch abort, its own to handle", pagemon_fetch(REGION, 0x6000, &byte), PAGEMON_RIGHT_LACKING);
+    expect("  the guest writes as before", pagemon_write(REGION, 0x5000, PATCH), PAGEMON_ACCEPTED);
     return failures != 0;
 }
