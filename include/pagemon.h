@@ -10,8 +10,9 @@
  *   golden   the golden image: SHA-256 digests of PAGEMON_DIGEST_BYTES, one behind the other in any order, none or up to
  *            PAGEMON_MAX_DIGESTS.
  *
- * No two buffers of a call share a byte, and nothing else writes them during the call. No pointer is NULL, also where the length is 0. Any
- * alignment will do. Any lengths and any contents are safe to lend: they are refused (PAGEMON_MISFIT) or judged as they stand.
+ * No two buffers of a call share a byte, and nothing else writes them during the call. Any alignment will do. A pointer whose length is 0 is
+ * not followed, and may be NULL; no other pointer is NULL. Any lengths and any contents are safe to lend: they are refused (PAGEMON_MISFIT)
+ * or judged as they stand.
  *
  * The processor. Entries are judged as ARMv7-A short descriptors with SCTLR.AFE, TRE, WXN and EE 0, TTBCR 0 and DACR 1. TLB and caches are
  * the caller's: docs/ASSUMPTIONS.md says which accepted call needs which upkeep before the guest runs on. Calls on one region are made one

@@ -18,7 +18,7 @@ enum { SIGNATURE_DIGEST_BYTES = 32 };
  * Stores the digest of the message's `length` bytes, any number of them, in the SIGNATURE_DIGEST_BYTES bytes at `digest`. The message is
  * only read.
  *
- * No pointer is NULL, also where `length` is 0. `message` and `digest` have any alignment, and share no byte.
+ * `message` is not followed where `length` is 0, and may then be NULL; `digest` is not NULL. They have any alignment, and share no byte.
  */
 void signature_sha256(const uint8_t *message, size_t length, uint8_t *digest);
 
@@ -26,7 +26,8 @@ void signature_sha256(const uint8_t *message, size_t length, uint8_t *digest);
  * Does the golden image have the digest of the block's bytes? An image is digests of SIGNATURE_DIGEST_BYTES, one behind the other in any
  * order; bytes behind the last whole one count for nothing. Both lengths may be any number.
  *
- * No pointer is NULL, also where a length is 0. `block` and `golden` have any alignment, are only read, and may share bytes.
+ * A pointer whose length is 0 is not followed, and may be NULL; no other pointer is NULL. `block` and `golden` have any alignment, are only
+ * read, and may share bytes.
  */
 bool signature_is_signed(const uint8_t *block, size_t block_length, const uint8_t *golden, size_t golden_length);
 

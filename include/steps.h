@@ -47,8 +47,9 @@ enum {
  * Writes memory and ledger as the calls do, the answer of each record obeyed to `answers`, and to `bytes` the byte that its read or fetch gave, 0 for every
  * other call. What lies beyond in `answers` and `bytes` stays as it was.
  *
- * No pointer is NULL, also where a length is 0. `answers` is aligned as a uint32_t is; the other five buffers have any alignment. None of the six shares a
- * byte with another, but golden and records, which are only read, may share bytes with each other. Nothing else writes them during the call.
+ * A pointer whose length is 0 is not followed, and may be NULL; no other pointer is NULL. `answers` is aligned as a uint32_t is; the other five buffers have
+ * any alignment. None of the six shares a byte with another, but golden and records, which are only read, may share bytes with each other. Nothing else writes
+ * them during the call.
  */
 size_t pagemon_run(uint8_t *memory, size_t memory_length, uint8_t *ledger, size_t ledger_length, const uint8_t *golden, size_t golden_length,
                    const uint8_t *records, size_t records_length, uint32_t *answers, size_t answers_length, uint8_t *bytes, size_t bytes_length);
