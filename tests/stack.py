@@ -1,11 +1,27 @@
 #!/usr/bin/env python3
-"""tools/stack on small functions in assembly: bounds that are known, and what it has to refuse. Then its figures of a document, some of them wrong."""
+"""tools/stack on small functions in assembly: bounds that are known, and what it has to refuse. Then documents, most of them with wrong figures."""
 import subprocess
+import sys
 import tempfile
 import unittest
+from importlib.machinery import SourceFileLoader
+from importlib.util import module_from_spec, spec_from_loader
 from pathlib import Path
 
 TOOL = Path(__file__).resolve().parent.parent / "tools" / "stack"
+
+
+def loaded():
+    """The tool as a module, since starting it for each case would take most of the time."""
+    sys.path.insert(0, str(TOOL.parent))
+    sys.dont_write_bytecode = True
+    loader = SourceFileLoader("stack", str(TOOL))
+    sys.modules["stack"] = module_from_spec(spec_from_loader("stack", loader))
+    loader.exec_module(sys.modules["stack"])
+    return sys.modules["stack"]
+
+
+tool = loaded()
 
 # A name before a brace is a function; a star exports it.
 TABLE = """*f { push rbx; mov eax, edi; lea rcx, t[rip]; movsxd rax, dword ptr [rcx + rax * 4]; add rax, rcx; MORE jmp rax;
@@ -18,7 +34,8 @@ def table(more="", depth="pop rbx;", section='.rodata.f,"a"', entry=".Lc - t"):
 
 
 TWO_TABLES = """*f { lea rcx, t[rip]; movsxd rax, dword ptr [rcx + rdi * 4]; add rax, rcx; jmp rax; .La: ret;
-    .Lb: push rbx; lea rcx, u[rip]; movsxd rax, dword ptr [rcx + rsi * 4]; add rax, rcx; jmp rax; .Lc: pop rbx; ret; .Ld: push rbx; pop rbx; pop rbx; ret }
+    .Lb: push rbx; lea rcx, u[rip]; movsxd rax, dword ptr [rcx + rsi * 4]; add rax, rcx; jmp rax; .Lc: pop rbx; ret;
+    .Ld: push rbx; pop rbx; pop rbx; ret }
     .section .rodata.f,"a"; .p2align 2; t: .long .La - t; .long .Lb - t; u: .long .Lc - u; .long .Ld - u"""
 
 # By name: functions in assembly, and the bounds of those that are exported.
@@ -32,12 +49,14 @@ BOUNDS = {
     "a reservation by a negative number": ("*f { add rsp, -0x80; sub rsp, -0x80; ret }", {"f": 136}),
     "a reservation by lea": ("*f { lea rsp, [rsp - 0x20]; lea rsp, [rsp + 0x20]; ret }", {"f": 40}),
     "a call": ("*f { push rbx; call g; pop rbx; ret } g { sub rsp, 0x28; add rsp, 0x28; ret }", {"f": 64}),
-    "a call that is less deep than what comes after it": ("*f { call g; sub rsp, 0x88; add rsp, 0x88; ret } g { push rbx; pop rbx; ret }", {"f": 144}),
+    "a call that is less deep than what comes after it": (
+        "*f { call g; sub rsp, 0x88; add rsp, 0x88; ret } g { push rbx; pop rbx; ret }", {"f": 144}),
     "the deepest of three chains": (
         "*f { push rbx; call g; call h; pop rbx; ret } g { ret } h { push rbx; push rbx; call g; pop rbx; pop rbx; ret }", {"f": 48}),
     "arguments on the stack": ("*f { push 1; push 2; call g; add rsp, 0x10; ret } g { ret }", {"f": 32}),
     "a jump to another function": ("*f { push rbx; pop rbx; jmp g } g { sub rsp, 0x40; add rsp, 0x40; ret }", {"f": 72}),
-    "a jump on a condition to another function": ("*f { test edi, edi; jne g; push rbx; pop rbx; ret } g { sub rsp, 0x40; add rsp, 0x40; ret }", {"f": 72}),
+    "a jump on a condition to another function": (
+        "*f { test edi, edi; jne g; push rbx; pop rbx; ret } g { sub rsp, 0x40; add rsp, 0x40; ret }", {"f": 72}),
     "a call of an export": ("*f { call g; ret } *g { push rbx; pop rbx; ret }", {"f": 24, "g": 16}),
     "an external function": ("*f { push rbx; call memcpy; pop rbx; ret }", {"f": 24}),
     "a jump to an external function": ("*f { jmp memset }", {"f": 8}),
@@ -77,14 +96,19 @@ REFUSALS = {
     "flags": ("*f { pushf; popf; ret }", r"f: 0: pushf: an instruction of which"),
     "a system call": ("*f { syscall; ret }", r"f: 0: syscall: an instruction of which"),
     "a place below the stack pointer": ("*f { mov [rsp - 8], rdi; ret }", r"f: 0: mov .*: a place below the stack pointer$"),
-    "depths that differ where two paths meet": ("*f { test edi, edi; je 1f; push rbx; 1: nop; ud2 }", r"it leads to 5 with (0|8) bytes on the stack, another path with (0|8)$"),
-    "a loop that pushes": ("*f { 1: push rbx; dec edi; jne 1b; ud2 }", r"f: .*: jne .*: it leads to 0 with 8 bytes on the stack, another path with 0$"),
+    "depths that differ where two paths meet": (
+        "*f { test edi, edi; je 1f; push rbx; 1: nop; ud2 }", r"it leads to 5 with (0|8) bytes on the stack, another path with (0|8)$"),
+    "a loop that pushes": (
+        "*f { 1: push rbx; dec edi; jne 1b; ud2 }", r"f: .*: jne .*: it leads to 0 with 8 bytes on the stack, another path with 0$"),
     "a return with bytes on the stack": ("*f { push rbx; ret }", r"f: 1: ret: it returns with 8 bytes on the stack$"),
     "a return that drops arguments": ("*f { ret 16 }", r"f: 0: ret 0x10: an instruction of which"),
-    "more freed than reserved": ("*f { sub rsp, -0x80; add rsp, -0x80; ret }", r"f: 0: sub .*: it takes more from the stack than the function put there$"),
+    "more freed than reserved": (
+        "*f { sub rsp, -0x80; add rsp, -0x80; ret }", r"f: 0: sub .*: it takes more from the stack than the function put there$"),
     "a pop of the return address": ("*f { pop rax; ret }", r"f: 0: pop rax: it takes more from the stack than the function put there$"),
-    "a jump away with bytes on the stack": ("*f { push rbx; jmp g } g { pop rbx; ret }", r"f: 1: jmp .*: it leaves the function with 8 bytes on the stack$"),
-    "a jump on a condition with bytes on the stack": ("*f { push rbx; jne g; pop rbx; ret } g { ret }", r"f: 1: jne .*: it leaves the function with 8 bytes"),
+    "a jump away with bytes on the stack": (
+        "*f { push rbx; jmp g } g { pop rbx; ret }", r"f: 1: jmp .*: it leaves the function with 8 bytes on the stack$"),
+    "a jump on a condition with bytes on the stack": (
+        "*f { push rbx; jne g; pop rbx; ret } g { ret }", r"f: 1: jne .*: it leaves the function with 8 bytes"),
     "a jump into another function": ("*f { jmp 5f } g { nop; 5: ret }", r"f: 0: jmp .*: it leads to .*, where no function starts$"),
     "a jump into an instruction": ("*f { jmp 1f + 1; 1: mov eax, 1; ret }", r"f: 0: jmp .*: it leads to 3, where the function has no instruction$"),
     "a function that runs on": ("*f { push rbx; pop rbx } g { ret }", r"f: 1: pop rbx: it leads to 2, where the function has no instruction$"),
@@ -113,26 +137,41 @@ class Stack(unittest.TestCase):
         self.addCleanup(folder.cleanup)
         self.folder = Path(folder.name)
 
-    def run_tool(self, text, *options):
-        source, built = self.folder / "code.s", self.folder / "code.o"
+    def build(self, text, name):
+        source, built = self.folder / f"{name}.s", self.folder / f"{name}.o"
         source.write_text(assembly(text))
         subprocess.run(["gcc", "-c", source, "-o", built], check=True)
-        return subprocess.run([TOOL, *options, built], stdout=subprocess.PIPE, stderr=subprocess.PIPE, text=True)
+        return built
+
+    def run_on(self, *arguments):
+        return subprocess.run([TOOL, *arguments], stdout=subprocess.PIPE, stderr=subprocess.PIPE, text=True)
+
+    def run_tool(self, text, *options):
+        return self.run_on(*options, self.build(text, "code"))
+
+    def run_archive(self, *texts):
+        archive = self.folder / "code.a"
+        members = [self.build(text, f"member{number}") for number, text in enumerate(texts)]
+        subprocess.run(["ar", "rc", archive, *members], check=True)
+        return self.run_on(archive)
+
+    def bounds(self, text):
+        found = tool.Program(self.build(text, "code"), tool.EXTERNAL).bounds()
+        return {name: tool.depth_of(chain) for name, chain in found.items()}
 
     def test_bounds(self):
         for name, (text, bounds) in BOUNDS.items():
             with self.subTest(name):
-                done = self.run_tool(text)
-                self.assertEqual((done.stderr, done.returncode), ("", 0))
-                printed = {line.split()[1]: int(line.split()[0].replace(",", "")) for line in done.stdout.splitlines()}
-                self.assertEqual(printed, bounds)
+                self.assertEqual(self.bounds(text), bounds)
 
     def test_refusals(self):
         for name, (text, refusal) in REFUSALS.items():
-            with self.subTest(name):
-                done = self.run_tool(text)
-                self.assertEqual((done.stdout, done.returncode), ("", 1))
-                self.assertRegex(done.stderr.strip(), refusal)
+            with self.subTest(name), self.assertRaisesRegex(tool.Refused, refusal):
+                self.bounds(text)
+
+    def test_a_refusal_is_all_that_is_printed(self):
+        done = self.run_tool("*f { ret } *g { call rax; ret }")
+        self.assertEqual((done.stdout, done.stderr, done.returncode), ("", "tools/stack: code.o: g: 1: call rax: an indirect call\n", 1))
 
     def test_frames_add_up(self):
         done = self.run_tool(BOUNDS["the deepest of three chains"][0], "--frames")
@@ -141,6 +180,30 @@ class Stack(unittest.TestCase):
     def test_external_functions_are_named(self):
         done = self.run_tool("*f { call abort; ret }", "--external", "abort")
         self.assertEqual((done.stdout.split(), done.returncode), (["16", "f"], 0))
+
+    def test_members_of_an_archive(self):
+        done = self.run_archive("*f { call g; ret } h { ret }", "*g { push rbx; call h; pop rbx; ret } h { sub rsp, 0x30; add rsp, 0x30; ret }")
+        self.assertEqual((done.stdout.split(), done.returncode), ("80 f 72 g".split(), 0))
+
+    def test_archives_that_are_refused(self):
+        for texts, refusal in ((("*f { call g; ret }", "*g { call f; ret }"), "recursion through f, g"),
+                               (("*f { ret }", "*f { ret }"), "two members export f"),
+                               (("f { ret }",), "no exported function"),
+                               (("*f { call g; ret }", "g { ret }"), "it leads to g, which is undefined")):
+            with self.subTest(refusal):
+                done = self.run_archive(*texts)
+                (self.folder / "code.a").unlink()
+                self.assertEqual((done.stdout, done.returncode), ("", 1))
+                self.assertIn(refusal, done.stderr)
+
+    def test_two_archives_with_one_export(self):
+        done = self.run_on(self.build("*f { ret }", "one"), self.build("*f { push rbx; pop rbx; ret }", "two"))
+        self.assertEqual((done.stdout, done.returncode), ("", 1))
+        self.assertIn("two.o: another archive exports f", done.stderr)
+
+    def test_a_file_that_is_missing(self):
+        done = self.run_on(self.folder / "missing.a")
+        self.assertEqual((done.stdout, done.returncode), ("", 1))
 
     def check(self, rows):
         document = self.folder / "document.md"
