@@ -83,7 +83,7 @@ REFUSALS = {
     "a jump table with a number": (table(entry="7"), r"jmp rax: the jump table has no address at 8$"),
     "a jump table with another depth": (table(depth=""), r"ret: it returns with 8 bytes on the stack$"),
     "a jump into the middle of a jump table": (
-        table().replace("mov eax, edi;", "test edi, edi; je 9f;").replace("add rax", "9: add rax"), r"jmp rax: a jump leads into the four instructions"),
+        table().replace("mov eax, edi;", "test edi, edi; je 9f;").replace("add rax", "9: add rax"), r"jmp rax: a jump leads into the instructions"),
     "an alloca": ("*f { push rbp; mov rbp, rsp; sub rsp, rdi; mov rsp, rbp; pop rbp; ret }", r"f: .*: sub rsp,rdi: a write to the stack pointer"),
     "an alignment": ("*f { push rbp; mov rbp, rsp; and rsp, -64; leave; ret }", r"f: .*: and rsp,0xffffffffffffffc0: a write to the stack pointer"),
     "a frame pointer": ("*f { push rbp; mov rbp, rsp; sub rsp, 0x20; leave; ret }", r"f: .*: leave: an instruction of which"),
