@@ -113,7 +113,7 @@ inputs_of() { # NAME
     mapfile -t crates < <(crates_of "$1")
     {
         rt version && uname -m && sha256sum crates.txt &&
-            find -L "${crates[@]/#/crates/}" -type f -not -path '*/must-fail/*' -not -path '*/controls/*' -print0 |
+            find -L "${crates[@]/#/crates/}" -type f -not -regex 'crates/[^/]*/\(must-fail\|controls\)/.*' -print0 |
             LC_ALL=C sort -z | xargs -0 sha256sum
     } | sha256sum
 }
@@ -140,9 +140,12 @@ forget_lost() { # NAME
     done
 }
 
-# rt's report, without the crates that it need not prove.
+# rt's report, without the crates that it need not prove. A loop of the shell hears a signal at once, which it would not while it waits for a filter.
 report() {
-    sed -u '/^rt: .* proved (unchanged since it was last proved)$/d'
+    local line
+    while IFS= read -r line || [ -n "$line" ]; do
+        [[ $line == 'rt: '*' proved (unchanged since it was last proved)' ]] || printf '%s\n' "$line"
+    done
 }
 
 prove_program() { # NAME
