@@ -180,5 +180,5 @@ build_program() { # NAME
 }
 
 build_archive() { # NAME
-    build "target/staticlib/lib$1.a" "$1" prove_archive "half a minute, and up to 5 minutes if crates below $1 are not proved"
+    build "target/staticlib/lib$1.a" "$1" prove_archive "a minute, and up to 5 more if crates below $1 are not proved"
 }
