@@ -182,3 +182,11 @@ build_program() { # NAME
 build_archive() { # NAME
     build "target/staticlib/lib$1.a" "$1" prove_archive "a minute, and up to 5 more if crates below $1 are not proved"
 }
+
+# All that C and Rust link.
+build_archives() {
+    local name
+    for name in signature monitor steps; do
+        build_archive "$name" || return 1
+    done
+}
