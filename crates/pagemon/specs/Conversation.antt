@@ -68,7 +68,7 @@ pub record Turned (before : Session) (store : Store) (rest : List ℕ) (number :
   pub turns : Turns before (session store rest number over)
   pub reason : Justified state number over
 
--- a turn after which the program goes on has read something, and keeps less than a record
+-- program 8: a turn after which the program goes on has read something, and keeps less than a record
 pub record Advanced (obeyed kept obeyed′ kept′ : ℕ) : Type 0 where
   pub few : obeyed′ ≤ obeyed + batch
   pub more : recordBytes * obeyed + kept < recordBytes * obeyed′ + kept′

@@ -21,7 +21,7 @@ use Rattle.steps.specs.Turns.{isStep}
 use Rattle.steps.proofs.Arrivals.{steps-append, spoilt-shift, spoilt-append, spoilt-none, spoilt-inside}
 use Rattle.steps.proofs.Decoding.{within-records}
 use Rattle.transcript.specs.Transcript.{lineOf, transcript}
-use Rattle.transcript.specs.Sessions.{obeyed, count, answered, output, Session, start, turned, told, heard, said, closing, ending, Reached, started, arrived}
+use Rattle.transcript.specs.Sessions.{obeyed, count, answered, output, Session, start, turned, told, heard, said, closing, ending, Reached, started, arrived, Prints, Sizes-do-not-matter}
 
 -- Lines
 
@@ -149,8 +149,7 @@ module _ (golden : List ℕ) (s₀ : Store) where
   follows started = follows-start
   follows (arrived r going chunk) = follows-arrival (follows r) going chunk
 
-  -- whatever the sizes in which the input arrived, what was printed of it, with what is printed at its end, is the text of the whole
-  pub whole-text : {input text : List ℕ} {session : Session} → Reached golden s₀ input text session → text ++ closing session ≡ output golden s₀ input
+  whole-text : {input text : List ℕ} {session : Session} → Reached golden s₀ input text session → text ++ closing session ≡ output golden s₀ input
   unfolding closing output ending
   whole-text {input} {text} {session} r = go (session .over) refl where
     f : Follows input text session
@@ -162,8 +161,7 @@ module _ (golden : List ℕ) (s₀ : Store) where
         rw (f .printed, e, append-nil, lt-ltb 0 (length input - recordBytes * count input) (omega arith)) refl
     go false e = rw (f .printed, e, append-nil, f .rest, f .number, length-drop (recordBytes * count input) input) refl
 
-  -- after bad nothing that could arrive would be printed
-  pub bad-is-last : {input text : List ℕ} {session : Session} → Reached golden s₀ input text session → session .over ≡ true → (more : List ℕ)
+  bad-is-last : {input text : List ℕ} {session : Session} → Reached golden s₀ input text session → session .over ≡ true → (more : List ℕ)
       → text ≡ output golden s₀ (input ++ more)
   unfolding output ending transcript
   bad-is-last {input} {text} {session} r e more =
@@ -173,3 +171,7 @@ module _ (golden : List ℕ) (s₀ : Store) where
       let same : count (input ++ more) ≡ count input = count-all input more ∙ rw none (add-zero (count input)) in
       let inside : 0 < length (input ++ more) - recordBytes * count input = omega (arith, length-append input more, spoilt-inside input (recordBytes * count input) spoilt-here) in
       rw (f .printed, e, answered-all input more golden s₀, same, none, append-nil, lt-ltb 0 (length (input ++ more) - recordBytes * count input) inside) refl
+
+-- the theorem about the program's text
+pub sizes-do-not-matter : Sizes-do-not-matter
+sizes-do-not-matter golden s input text now r = record { all = whole-text golden s r; last = λ e more. bad-is-last golden s r e more }

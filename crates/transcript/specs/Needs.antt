@@ -5,8 +5,8 @@ use Prim.Native.Nat.{ℕ, _+_, _*_, _≤_, _<_}
 use Rattle.steps.specs.Records.{recordBytes}
 use Rattle.transcript.specs.Transcript.{batch}
 
--- after so many records, a batch was obeyed of so many bytes: these are kept, so many records are obeyed now, and less than a record is left unless
--- bad was said
+-- program 9: the records of so many bytes were obeyed after so many before them: so many bytes are kept, so many records are obeyed now, and less
+-- than a record is kept unless bad was said
 pub record Advance (earlier filled kept obeyed : ℕ) (over : Bool) : Type 0 where
   pub few : obeyed ≤ earlier + batch
   pub left : kept ≤ filled

@@ -1,5 +1,5 @@
 -- What the program prints of an input, all at once and as the input arrives (RULES: program).
-use mathlib.Core.Bool.{Bool, false, cond}
+use mathlib.Core.Bool.{Bool, true, false, cond}
 use mathlib.Core.List.{List, [], _++_}
 use mathlib.Core.Path.{_≡_}
 use Prim.Native.Nat.{ℕ, _+_, _-_, _*_}
@@ -87,3 +87,13 @@ pub data Reached (golden : List ℕ) (s : Store) : List ℕ → List ℕ → Ses
   started : Reached golden s [] [] (start s)
   arrived : {input text : List ℕ} {now : Session} → Reached golden s input text now → now .over ≡ false → (chunk : List ℕ)
       → Reached golden s (input ++ chunk) (text ++ said golden now chunk) (heard golden now chunk)
+
+-- program 6, program 9: what was printed of an input, with what is due if it ends here, is the text of the whole; and where bad was said, whatever
+-- came behind would add nothing
+pub record Prints (golden : List ℕ) (s : Store) (input text : List ℕ) (now : Session) : Type 0 where
+  pub all : text ++ closing now ≡ output golden s input
+  pub last : now .over ≡ true → (more : List ℕ) → text ≡ output golden s (input ++ more)
+
+-- program 6: what is printed of an input does not depend on the sizes in which it arrives
+abbrev pub Sizes-do-not-matter : Type 0
+Sizes-do-not-matter = (golden : List ℕ) (s : Store) (input text : List ℕ) (now : Session) → Reached golden s input text now → Prints golden s input text now

@@ -23,6 +23,6 @@ transcript records answers bytes zero = []
 transcript records answers bytes (suc n) =
     transcript records answers bytes n ++ textOf (lineOf (getD records (recordBytes * n + callPlace) 0) (getD answers n 0) (getD bytes n 0))
 
--- the most records that are obeyed at a time
+-- program 9: the most records that are obeyed between two reads
 abbrev pub batch : ℕ
 batch = 2048
