@@ -1,7 +1,7 @@
 // Standard input: what has arrived, as soon as it has (program 8, program 9).
 use libc::STDIN_FILENO;
 ghost use mathlib.Core.Path.{_≡_};
-ghost use Prim.Native.Nat.{_<_, _≤_};
+ghost use Prim.Native.Nat.{_≤_};
 ghost use lib.ListN.{length, take};
 ghost use Rattle.pagemon.specs.Conversation.{Fits};
 

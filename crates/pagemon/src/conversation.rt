@@ -1,20 +1,21 @@
-// The session with standard input and output: what arrives is obeyed, and what is to be printed of it is written (program 8, program 9).
+// The session with standard input and output: what arrives is obeyed, and what is due is printed (program 8, program 9).
 use crate::arrival::Arrival;
 use crate::arrival::receive;
 use crate::output::write_text;
 use transcript::close;
 use transcript::hear;
-ghost use mathlib.Core.Bool.{false, true};
+ghost use mathlib.Core.Bool.{cond, false, true};
 ghost use mathlib.Core.Path.{_≡_};
 ghost use Prim.Native.Nat.{_+_, _*_, _<_, _≤_};
-ghost use lib.ListN.{length, take};
+ghost use lib.ListN.{drop, length, take};
 ghost use Rattle.lines.specs.Lines.{longestLine};
+ghost use Rattle.lines.specs.Stored.{Stored};
 ghost use Rattle.rules.specs.Store.{lent};
 ghost use Rattle.steps.specs.Records.{recordBytes};
 ghost use Rattle.transcript.specs.Needs.{Advance};
-ghost use Rattle.transcript.specs.Sessions.{session, zeros};
+ghost use Rattle.transcript.specs.Sessions.{session, told, turned, zeros};
 ghost use Rattle.transcript.specs.Transcript.{batch};
-ghost use Rattle.pagemon.specs.Conversation.{Advanced, Concluded, Justified, Obeyed, Turned, isOpen, most, stateAfter};
+ghost use Rattle.pagemon.specs.Conversation.{Advanced, Answered, Concluded, Fits, image, isBad, isOpen, most};
 
 // Where the program stands.
 pub enum State {
@@ -25,7 +26,7 @@ pub enum State {
     Ended,
     ReadFailed,
     WriteFailed,
-    // More records were obeyed than the program counts.
+    // As many records were obeyed as the program obeys at most.
     TooLong,
 }
 
@@ -42,27 +43,26 @@ fn is_open(state: State) -> bool
     }
 }
 
-// What a turn leaves: the bytes kept in front of the input, the records obeyed, and where the program stands.
+// What the program does with what a read came to: the bytes kept at the front of the input, the records obeyed, the place after what is to be
+// printed, and where it stands then.
 struct Turn {
     kept: usize,
     obeyed: u64,
+    end: usize,
     state: State,
 }
 
-// Where the program stands after an arrival, by whether its text was written and whether that ends with bad.
-fn state_after(is_written: bool, is_over: bool) -> State
-    ensures { λ r. ⌜ r ≡ stateAfter «is_written» «is_over» ⌝ }
+// Where the program stands after an arrival, by whether bad is said.
+fn state_after(is_over: bool) -> State
+    ensures { λ r. ⌜ r ≡ cond «is_over» State.Bad State.Open ⌝ }
 {
-    if !is_written {
-        return State::WriteFailed;
-    }
     if is_over {
         return State::Bad;
     }
     State::Open
 }
 
-// Obeys the records that stand whole in front of the input, and prints what is due.
+// Obeys the records that stand whole at the front of the input, and stores what is to be printed of them.
 fn obey_arrived(
     memory: &mut [u8],
     ledger: &mut [u8],
@@ -73,32 +73,36 @@ fn obey_arrived(
 ) -> Turn
     requires { ⌜ (filled ≤ length (now input)) × (length (now input) ≡ recordBytes * batch) ⌝ }
     requires { ⌜ (obeyed < most) × (longestLine * (batch + 1) ≤ length (now text)) ⌝ }
-    ensures { λ r. ⌜ Obeyed (lent (now (memory .entry)) (now (ledger .entry))) (take filled (now (input .entry))) obeyed (lent (now (memory .exit)) (now (ledger .exit))) (take (r .kept) (now (input .exit))) (r .obeyed) (r .state) ⌝ }
-    ensures { λ r. ⌜ (isOpen (r .state) ≡ true → Advance obeyed filled (r .kept) (r .obeyed) false) ⌝ }
+    ensures { λ r. ⌜ session (lent (now (memory .exit)) (now (ledger .exit))) (take (r .kept) (now (input .exit))) (r .obeyed) (isBad (r .state)) ≡ turned image (lent (now (memory .entry)) (now (ledger .entry))) obeyed (take filled (now (input .entry))) ⌝ }
+    ensures { λ r. ⌜ Stored (now (text .entry)) 0 (told image (lent (now (memory .entry)) (now (ledger .entry))) obeyed (take filled (now (input .entry)))) (now (text .exit)) (r .end) ⌝ }
+    ensures { λ r. ⌜ r .state ≡ cond (isBad (r .state)) State.Bad State.Open ⌝ }
+    ensures { λ r. ⌜ Advance obeyed filled (r .kept) (r .obeyed) (isBad (r .state)) ⌝ }
+    ensures { λ r. ⌜ r .end ≤ length (now (text .exit)) ⌝ }
 {
     let heard = hear(memory, ledger, b"", input, filled, obeyed, text);
-    let is_written = write_text(text, heard.end);
     Turn {
         kept: heard.kept,
         obeyed: heard.obeyed,
-        state: state_after(is_written, heard.is_over),
+        end: heard.end,
+        state: state_after(heard.is_over),
     }
 }
 
-// Prints what is due where the input ends.
-fn finish(kept: usize, obeyed: u64, text: &mut [u8]) -> State
-    requires { ⌜ longestLine ≤ length (now text) ⌝ }
-    ensures { λ r. ⌜ (isOpen r ≡ false) × Justified r obeyed false ⌝ }
+// What the program does where reading has failed: nothing.
+fn give_up(kept: usize, obeyed: u64) -> Turn
+    ensures { λ r. ⌜ (r .kept ≡ kept) × (r .obeyed ≡ obeyed) × (r .end ≡ 0) × (r .state ≡ State.ReadFailed) ⌝ }
 {
-    let end = close(kept, obeyed, text);
-    if write_text(text, end) {
-        return State::Ended;
+    Turn {
+        kept,
+        obeyed,
+        end: 0,
+        state: State::ReadFailed,
     }
-    State::WriteFailed
 }
 
-// Reads, obeys and prints once.
-fn take_turn(
+// Obeys what has arrived behind the bytes that are kept, and stores what is to be printed (program 9).
+fn answer(
+    arrival: Arrival,
     memory: &mut [u8],
     ledger: &mut [u8],
     input: &mut [u8],
@@ -106,23 +110,23 @@ fn take_turn(
     obeyed: u64,
     text: &mut [u8],
 ) -> Turn
+    requires { ⌜ Fits (length (now input)) kept arrival ⌝ }
     requires { ⌜ (kept < recordBytes) × (length (now input) ≡ recordBytes * batch) ⌝ }
     requires { ⌜ (obeyed < most) × (longestLine * (batch + 1) ≤ length (now text)) ⌝ }
-    ensures { λ r. ⌜ Turned (session (lent (now (memory .entry)) (now (ledger .entry))) (take kept (now (input .entry))) obeyed false) (lent (now (memory .exit)) (now (ledger .exit))) (take (r .kept) (now (input .exit))) (r .obeyed) (r .state) ⌝ }
+    ensures { λ r. ⌜ Answered arrival (session (lent (now (memory .entry)) (now (ledger .entry))) (take kept (now (input .entry))) obeyed false) (drop kept (now (input .entry))) (now (text .entry)) (session (lent (now (memory .exit)) (now (ledger .exit))) (take (r .kept) (now (input .exit))) (r .obeyed) (isBad (r .state))) (now (text .exit)) (r .end) (r .state) ⌝ }
     ensures { λ r. ⌜ (isOpen (r .state) ≡ true → Advanced obeyed kept (r .obeyed) (r .kept)) ⌝ }
+    ensures { λ r. ⌜ r .end ≤ length (now (text .exit)) ⌝ }
 {
-    match receive(input, kept) {
+    match arrival {
         Arrival::Bytes(n) => obey_arrived(memory, ledger, input, kept + n, obeyed, text),
         Arrival::End => Turn {
             kept,
             obeyed,
-            state: finish(kept, obeyed, text),
+            end: close(kept, obeyed, text),
+            state: State::Ended,
         },
-        _ => Turn {
-            kept,
-            obeyed,
-            state: State::ReadFailed,
-        },
+        Arrival::Later => give_up(kept, obeyed),
+        Arrival::Failed => give_up(kept, obeyed),
     }
 }
 
@@ -135,7 +139,7 @@ pub struct Conclusion {
     pub obeyed: u64,
 }
 
-// Obeys what arrives until a record is bad, the input ends, or reading or writing fails.
+// Obeys and answers what arrives, until a record is bad, the input ends, reading or writing fails, or the records are as many as they may be.
 pub fn converse(
     memory: &mut [u8],
     ledger: &mut [u8],
@@ -149,7 +153,14 @@ pub fn converse(
     let mut kept = 0;
     let mut obeyed = 0;
     while obeyed < MOST {
-        let done = take_turn(memory, ledger, input, kept, obeyed, text);
+        let arrival = receive(input, kept);
+        let done = answer(arrival, memory, ledger, input, kept, obeyed, text);
+        if !write_text(text, done.end) {
+            return Conclusion {
+                state: State::WriteFailed,
+                obeyed: done.obeyed,
+            };
+        }
         let state = done.state;
         if !is_open(state) {
             return Conclusion {

@@ -4,16 +4,40 @@ use crate::arrival::is_passing;
 use crate::conversation::State;
 use libc::STDERR_FILENO;
 use libc::STDOUT_FILENO;
-ghost use Prim.Native.Nat.{_+_, _≤_};
+ghost use mathlib.Core.Bool.{true};
+ghost use mathlib.Core.Path.{_≡_};
+ghost use Prim.Native.Nat.{_+_, _≤_, _<_};
 ghost use lib.ListN.{length};
 
-// Writes some of a text's bytes from a place up to an end, and says how many.
-fn write_once(text: &[u8], from: usize, end: usize) -> usize
+// What a write came to: the bytes that it took, and whether it failed.
+struct Written {
+    count: usize,
+    is_failed: bool,
+}
+
+// Writes once, some of a text's bytes from a place up to an end.
+fn write_once(text: &[u8], from: usize, end: usize) -> Written
     requires { ⌜ (from ≤ end) × (end ≤ length (now text)) ⌝ }
-    ensures { λ r. ⌜ from + r ≤ end ⌝ }
+    ensures { λ r. ⌜ from + r .count ≤ end ⌝ }
 {
     let put = libc::write(STDOUT_FILENO, &text[from..end]);
-    io::count(put, &text[from..end])
+    Written {
+        count: io::count(put, &text[from..end]),
+        is_failed: put < 0,
+    }
+}
+
+// Whether a write that took nothing is worth another try.
+fn may_try_again(written: Written, tries: u64) -> bool
+    ensures { λ r. ⌜ (r ≡ true → 0 < tries) ⌝ }
+{
+    if !written.is_failed {
+        return false;
+    }
+    if tries == 0 {
+        return false;
+    }
+    is_passing(os::errno())
 }
 
 // Writes the text up to an end, and says whether all of it was taken. A write that an error stops which passes by itself is tried again.
@@ -23,13 +47,10 @@ pub fn write_text(text: &[u8], end: usize) -> bool
     let mut from = 0;
     let mut tries = TRIES;
     while from < end {
-        let n = write_once(text, from, end);
-        from += n;
-        if n == 0 {
-            if tries == 0 {
-                return false;
-            }
-            if !is_passing(os::errno()) {
+        let written = write_once(text, from, end);
+        from += written.count;
+        if written.count == 0 {
+            if !may_try_again(written, tries) {
                 return false;
             }
             libc::sched_yield();

@@ -2,7 +2,7 @@
 -- are read as if they stood alone.
 use mathlib.Core.Bool.{Bool, true, false, not, cond, _||_, false≢true}
 use mathlib.Core.List.{List, [], _∷_, _++_, map}
-use mathlib.Core.Logic.{_⊎_, inl, inr, ⊎-elim}
+use mathlib.Core.Logic.{⊎-elim}
 use mathlib.Core.Option.{Option, none, some}
 use mathlib.Core.Path.{_≡_, refl, sym, ap, _∙_}
 use Prim.Native.Nat.{ℕ, zero, suc, _+_, _-_, _*_, _<_, _≤_}
@@ -16,10 +16,10 @@ use Rattle.words.proofs.Bounded.{below-or-above, or-left, or-right}
 use Rattle.words.specs.Bounded.{above, neqb}
 use Rattle.words.specs.Words.{word}
 use Rattle.rules.specs.Steps.{Step}
-use Rattle.steps.specs.Records.{recordBytes, callPlace, calls, stepOf, allSteps, short, unmarked, wholeStep, stepAt, andThen, stepsFrom}
+use Rattle.steps.specs.Records.{recordBytes, callPlace, calls, stepOf, allSteps, short, wholeStep, stepAt, andThen, stepsFrom}
 use Rattle.steps.specs.Spoilt.{spoilt}
 use Rattle.steps.specs.Turns.{isStep}
-use Rattle.steps.proofs.Decoding.{within-records, step-within}
+use Rattle.steps.proofs.Decoding.{within-records}
 
 -- A record is read from its bytes alone
 

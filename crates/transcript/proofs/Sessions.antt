@@ -1,7 +1,7 @@
 -- What is printed does not depend on the sizes in which the input arrives: a session in which it has arrived in parts is the one that all of
 -- it comes to.
-use mathlib.Core.Bool.{Bool, true, false, cond, false≢true}
-use mathlib.Core.List.{List, [], _∷_, _++_, append-nil, append-assoc}
+use mathlib.Core.Bool.{Bool, true, false, cond}
+use mathlib.Core.List.{List, [], _++_, append-nil, append-assoc}
 use mathlib.Core.Path.{_≡_, refl, sym, ap, _∙_}
 use Prim.Native.Nat.{ℕ, zero, suc, _+_, _-_, _*_, _<_, _≤_}
 use native.Mathlib.Nat.{add-zero, add-suc}
@@ -20,8 +20,8 @@ use Rattle.steps.specs.Spoilt.{spoilt}
 use Rattle.steps.specs.Turns.{isStep}
 use Rattle.steps.proofs.Arrivals.{steps-append, spoilt-shift, spoilt-append, spoilt-none, spoilt-inside}
 use Rattle.steps.proofs.Decoding.{within-records}
-use Rattle.transcript.specs.Transcript.{lineOf, transcript}
-use Rattle.transcript.specs.Sessions.{obeyed, count, answered, output, Session, start, turned, told, heard, said, closing, ending, Reached, started, arrived, Prints, Sizes-do-not-matter}
+use Rattle.transcript.specs.Transcript.{transcript}
+use Rattle.transcript.specs.Sessions.{obeyed, count, answered, output, Session, start, turned, told, heard, said, closing, ending, Reached, started, arrived, Sizes-do-not-matter}
 
 -- Lines
 

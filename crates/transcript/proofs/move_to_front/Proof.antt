@@ -1,5 +1,4 @@
 -- The invariant: the bytes passed are moved, and the others are as they were.
-use mathlib.Core.Path.{_≡_}
 use Prim.Native.Nat.{_-_, _≤_}
 use native.Mathlib.Omega.{arith}
 use Rattle.transcript.proofs.Moving.{Moving, moving-starts, moving-turn, moving-ends}

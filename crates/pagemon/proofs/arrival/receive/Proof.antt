@@ -1,6 +1,5 @@
 -- The bytes that are kept stay as they were in every turn; the measure is the tries that are left.
 use mathlib.Core.Path.{_≡_, refl, _∙_}
-use Prim.Native.Nat.{ℕ}
 use native.Mathlib.Omega.{arith}
 use lib.ListN.{length, take}
 use Rattle.pagemon.proofs.arrival.receive.Statement.{statement}

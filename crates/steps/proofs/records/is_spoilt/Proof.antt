@@ -1,5 +1,5 @@
 -- Each return is decided by the tests up to its own.
-use mathlib.Core.Path.{refl, sym, ap, _∙_}
+use mathlib.Core.Path.{refl}
 use borrow.Author.Needs.{needs}
 use Rattle.words.proofs.Bounded.{differ, same}
 use Rattle.steps.specs.Spoilt.{spoilt}
