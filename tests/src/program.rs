@@ -35,16 +35,20 @@ pub fn line(call: Call, given: Given) -> String {
     }
 }
 
-/// Records with a wrong mark or an unlisted call, and short ones of every length.
-pub fn bad_records() -> Vec<Vec<u8>> {
-    let good = Call::new(Begin, &[0]).record();
+/// Whole records with a wrong mark or an unlisted call, and the place of the byte that is wrong.
+pub fn spoilt_records() -> impl Iterator<Item = (usize, [u8; RECORD_BYTES])> {
     let marks = [(0, 0x00), (0, 0x54), (0, 0xD0), (1, 0x00), (1, 0x50), (1, 0xD4)];
     let unlisted = [(2, 0), (2, Kind::ALL.len() as u8 + 1), (2, 129), (2, 255)];
-    let whole = marks.into_iter().chain(unlisted).map(|(at, byte)| {
-        let mut record = good.to_vec();
+    marks.into_iter().chain(unlisted).map(|(at, byte)| {
+        let mut record = Call::new(Begin, &[0]).record();
         record[at] = byte;
-        record
-    });
+        (at, record)
+    })
+}
+
+/// Spoilt records, and good ones cut short to every length.
+pub fn bad_records() -> Vec<Vec<u8>> {
+    let good = Call::new(Begin, &[0]).record();
     let short = (1..RECORD_BYTES).map(|length| good[..length].to_vec());
-    whole.chain(short).collect()
+    spoilt_records().map(|(_, record)| record.to_vec()).chain(short).collect()
 }
