@@ -30,8 +30,8 @@ def measure(crate, log):
 
 # Definitions to believe: for the fourteen promises, the theorem over lists and its claim about every caller, beyond that, and what only inner functions owe each other.
 THEOREM = ("words", "signature", "entries", "rules", "monitor")
-BEYOND = ("steps", "lines", "transcript")
-INNER_FILES = ("entries/specs/Needs.antt",)
+BEYOND = ("steps", "lines", "transcript", "pagemon")
+INNER_FILES = ("entries/specs/Needs.antt", "transcript/specs/Needs.antt")
 BEYOND_FILES = ("rules/specs/Policies.antt",)
 
 

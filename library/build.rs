@@ -10,8 +10,8 @@ fn main() {
         println!("cargo::rerun-if-changed={ARCHIVES}/lib{name}.a");
     }
     let missing = names.iter().filter(|name| !Path::new(&format!("{ARCHIVES}/lib{name}.a")).exists());
-    let commands: Vec<String> = missing.map(|name| format!("rt staticlib {name}")).collect();
-    if !commands.is_empty() {
-        println!("cargo::error=target/staticlib lacks an archive: run `{}`", commands.join(" && "));
+    let lacking: Vec<String> = missing.map(|name| format!("lib{name}.a")).collect();
+    if !lacking.is_empty() {
+        println!("cargo::error=target/staticlib lacks {}: tests/run builds the archives", lacking.join(", "));
     }
 }

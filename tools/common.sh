@@ -35,6 +35,8 @@ declare -A purpose=(
     [python3]="runs the checks of tools/"
     [objdump]="prints machine code"
     [valgrind]="counts instructions"
+    [setsid]="runs rt apart, so that a signal can end it"
+    [mkfifo]="passes on what rt prints"
 )
 
 # Ends the script, with one line, if programs are not on the path.
@@ -76,6 +78,7 @@ trap clean_up EXIT
 follow() { # FILTER COMMAND...
     local filter=$1 status=0
     shift
+    needs setsid mkfifo
     make_scratch
     mkfifo "$scratch/printed" || die "no pipe"
     setsid "$@" < /dev/null > "$scratch/printed" 2>&1 &

@@ -1,6 +1,7 @@
 /*
  * Buffers at the edges of what C code can lend: lengths above 2^32 over addresses that must not be touched, empty buffers whose pointer is NULL or
- * must not be followed, odd addresses, and buffers that start or end where a page does, beside one that must not be touched.
+ * must not be followed, odd addresses, and buffers that start or end where a page does, beside one that must not be touched. The long ones are
+ * reserved, not used: that takes some 80 GiB of address space.
  */
 #define _GNU_SOURCE
 #include "signature.h"

@@ -1,7 +1,7 @@
 //! Candidate and reference side by side: the answer, the byte given, and every byte of memory and ledger.
 use crate::cases::Case;
 use crate::faults::{Fault, Seeded};
-use crate::monitor::{perform, Call, Given, Kind, Monitor, Store, BLOCK};
+use crate::monitor::{Call, Given, Kind, Monitor, Store, BLOCK};
 use crate::outcome::Outcomes;
 use crate::reference::Reference;
 use std::collections::{BTreeMap, BTreeSet};
@@ -77,8 +77,8 @@ impl<'a> Comparer<'a> {
         let reasons = self.reasons.map_or(Vec::new(), |reference| reference.reasons(call, store));
         let before = (!self.unfound.is_empty()).then(|| store.clone());
         let mut other = store.clone();
-        let expected = perform(self.reference, call, &mut other);
-        let given = catch_unwind(AssertUnwindSafe(|| perform(self.candidate, call, store)))
+        let expected = self.reference.perform(call, &mut other);
+        let given = catch_unwind(AssertUnwindSafe(|| self.candidate.perform(call, store)))
             .map_err(|_| difference(name, call, "a rule on buffers was broken".to_string()))?;
         let tally = self.tallies.entry(call.kind).or_default();
         tally.cases += 1;

@@ -1,4 +1,4 @@
-//! Safe Rust faces of the exported calls, and independent implementations to compare them with.
+//! The exported calls beside an independent implementation.
 pub mod bytes;
 pub mod cases;
 pub mod compare;

@@ -3,7 +3,7 @@ use crate::bytes::word;
 use crate::cases::scene::*;
 use crate::compare::{difference, Comparer, Outcome};
 use crate::demand::Told;
-use crate::monitor::{perform, Call, Given, Kind, Monitor, BLOCK};
+use crate::monitor::{Call, Given, Kind, Monitor, BLOCK};
 use crate::random::Random;
 use std::collections::{BTreeSet, VecDeque};
 use Kind::*;
@@ -39,7 +39,7 @@ pub fn broken_by(monitor: &dyn Monitor) -> impl Iterator<Item = BTreeSet<u32>> +
         for _ in 0..=steps {
             let call = lister.next();
             let before = lister.scene.store.memory.clone();
-            let given = perform(monitor, call, &mut lister.scene.store);
+            let given = monitor.perform(call, &mut lister.scene.store);
             let breaches = lister.told.step(call, given, &before, &lister.scene.store);
             broken.extend(breaches.iter().map(|breach| breach.clause));
         }
@@ -84,7 +84,7 @@ impl Lister {
         let mut obeyed = Vec::with_capacity(steps);
         for _ in 0..steps {
             let call = self.next();
-            let given = perform(monitor, call, &mut self.scene.store);
+            let given = monitor.perform(call, &mut self.scene.store);
             self.told.note(call, given);
             obeyed.push((call, given));
         }

@@ -27,7 +27,3 @@ pub struct Given {
 pub trait Monitor {
     fn perform(&self, call: Call, store: &mut Store) -> Given;
 }
-
-pub fn perform(monitor: &dyn Monitor, call: Call, store: &mut Store) -> Given {
-    monitor.perform(call, store)
-}

@@ -2,7 +2,7 @@
 use records::parse;
 use std::fs;
 use std::path::{Path, PathBuf};
-use tests::monitor::{perform, Call, Monitor, Store};
+use tests::monitor::{Call, Monitor, Store};
 use tests::program::{self, line};
 use tests::reference::Reference;
 
@@ -16,7 +16,7 @@ fn scripts() -> Vec<PathBuf> {
 
 /// The line that `pagemon` prints for a call.
 fn answer(monitor: &dyn Monitor, call: Call, store: &mut Store) -> String {
-    line(call, perform(monitor, call, store)) + "\n"
+    line(call, monitor.perform(call, store)) + "\n"
 }
 
 fn answers_are_as_expected(monitor: &dyn Monitor) {

@@ -5,14 +5,14 @@ use std::process::Command;
 use std::rc::Rc;
 use tests::bytes::word;
 use tests::cases::scene::*;
-use tests::monitor::{perform, Call, Given, Kind, BLOCK, NO_TABLE};
+use tests::monitor::{Call, Given, Kind, Monitor, BLOCK, NO_TABLE};
 use tests::reference::entries::{page_number, Level};
 use tests::reference::Reference;
 use tests::sha256::Sha256;
 use Kind::*;
 
 fn answer(scene: &mut Scene, kind: Kind, arguments: &[u32]) -> u32 {
-    perform(&Reference::new(), Call::new(kind, arguments), &mut scene.store).answer
+    Reference::new().perform(Call::new(kind, arguments), &mut scene.store).answer
 }
 
 #[test]
@@ -212,7 +212,7 @@ fn guest_bytes() {
     scene.put(0, 0, scene.link(4, 0));
     scene.put(4, 5, scene.mapping(8, PAGE_WRITE));
     let mut given = |kind, arguments: &[u32]| {
-        let Given { answer, byte } = perform(&Reference::new(), Call::new(kind, arguments), &mut scene.store);
+        let Given { answer, byte } = Reference::new().perform(Call::new(kind, arguments), &mut scene.store);
         (answer, byte)
     };
     assert_eq!(given(Write, &[0x5001, 0x1234_5678]), (0, 0));

@@ -1,11 +1,11 @@
 //! The sample list of calls (program 7), on what `pagemon` has.
 use tests::library::Library;
-use tests::monitor::{perform, Call, Kind, Store};
+use tests::monitor::{Call, Kind, Monitor, Store};
 use tests::program::{self, line, SAMPLE};
 use Kind::*;
 
 fn answer(call: Call, store: &mut Store) -> String {
-    line(call, perform(&Library::default(), call, store))
+    line(call, Library::default().perform(call, store))
 }
 
 #[test]

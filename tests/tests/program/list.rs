@@ -1,7 +1,7 @@
 //! What the program is sent, and what it prints of that.
 use tests::cases::scene::Scene;
 use tests::lists::Lister;
-use tests::monitor::{perform, Call, Given, Kind};
+use tests::monitor::{Call, Given, Kind, Monitor};
 use tests::program::{line, records, store, RECORD_BYTES, SAMPLE};
 use tests::random::Random;
 use tests::reference::Reference;
@@ -40,7 +40,7 @@ impl List {
         let sample = SAMPLE.map(|(kind, arguments, _)| Call::new(kind, arguments));
         let drawn = (0..LONG).map(|_| draw_after_sample(&mut random));
         for call in sample.into_iter().chain(drawn) {
-            list.push(call, perform(&Reference::new(), call, &mut store));
+            list.push(call, Reference::new().perform(call, &mut store));
         }
         list
     }
