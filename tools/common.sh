@@ -179,11 +179,11 @@ build() { # FILE NAME FUNCTION TIME
 }
 
 build_program() { # NAME
-    build "target/bin/$1" "$1" prove_program "5 minutes from nothing, a minute if only $1 has changed"
+    build "target/bin/$1" "$1" prove_program "7 minutes from nothing, a minute if only $1 has changed"
 }
 
 build_archive() { # NAME
-    build "target/staticlib/lib$1.a" "$1" prove_archive "a minute, and up to 5 more if crates below $1 are not proved"
+    build "target/staticlib/lib$1.a" "$1" prove_archive "a minute, and up to 6 more if crates below $1 are not proved"
 }
 
 # All that C and Rust link.
