@@ -7,7 +7,7 @@ use lib.Dec.{ltb}
 use lib.ListN.{length, drop, replicate}
 use Rattle.lines.specs.declared.Line.the-variants.{Bad}
 use Rattle.lines.specs.Lines.{textOf}
-use Rattle.rules.specs.Store.{Store, lent}
+use Rattle.rules.specs.Store.{Store, lent, blockBytes, ledgerHeadBytes, ledgerRecordBytes}
 use Rattle.rules.specs.Steps.{Run, run}
 use Rattle.steps.specs.Records.{recordBytes, allSteps}
 use Rattle.steps.specs.Spoilt.{spoilt}
@@ -45,9 +45,13 @@ pub record Session : Type 0 where
 abbrev pub session : Store → List ℕ → ℕ → Bool → Session
 session s rest number over = record { store = s; rest = rest; number = number; over = over }
 
+-- program 1: the blocks of the program's memory
+abbrev pub programBlocks : ℕ
+programBlocks = 16
+
 -- program 1: memory and ledger of zeros
 abbrev pub zeros : Store
-zeros = lent (replicate 65536 0) (replicate 264 0)
+zeros = lent (replicate (blockBytes * programBlocks) 0) (replicate (ledgerHeadBytes + ledgerRecordBytes * programBlocks) 0)
 
 -- program 1: an image without a digest
 abbrev pub noDigest : List ℕ

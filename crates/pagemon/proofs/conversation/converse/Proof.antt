@@ -37,7 +37,7 @@ answer-requires c κs =
     let pre = c .before .before .before .before .before .before .before .before .before .before .before .before .before .before .pre in
     let received = c .before .before .before .before .before .before .receive in (
       fits-same (length (c .before .before .before .before .before .before .before .before .before .loop .input)) (length (received .last .0)) (c .before .before .before .before .before .before .before .before .before .loop .kept) (received .result) (received .kept .0) (received .ensures .1),
-      ((inv .4, received .kept .0 ∙ inv .2 ∙ pre .1 .0), (c .before .before .before .before .before .before .before .before .loop-test .taken, omega (arith, pre .1 .1, inv .3))),
+      ((inv .4, received .kept .0 ∙ inv .2 ∙ pre .1 .0), (omega (arith, c .before .before .before .before .before .before .before .before .loop-test .taken), omega (arith, pre .1 .1, inv .3))),
     )
 
 returns : tie.Need-returns Inv-loop μ-loop
