@@ -4,18 +4,18 @@ use mathlib.Core.List.{List, [], _∷_, map}
 use Prim.Native.Nat.{ℕ}
 use Rattle.words.specs.Bounded.{num}
 use Rattle.entries.specs.Rights.{mayRead, mayWrite, mayExecute, rightsOf}
-use Rattle.entries.specs.Entries.{isPageForm, l2Entry, codeOf, pageCode}
-use Rattle.entries.specs.Written.{cacheable, pageBits, sectionBits}
+use Rattle.entries.specs.Entries.{isPageForm, isLargeForm, l2Entry, codeOf, wordCode, pageCode}
+use Rattle.entries.specs.Written.{cacheable, pageBits, sectionBits, largeBits}
 
--- entries 14: bits 9..0 of twelve words, and the numbers that the table of entries 13 has for them
+-- entries 14: bits 9..0 of twelve words, and the numbers that the table of entries 22 has for them
 abbrev pub indices : List ℕ
 indices = 0x3FC ∷ 0x00D ∷ 0x20E ∷ 0x00F ∷ 0x01F ∷ 0x21E ∷ 0x02F ∷ 0x23F ∷ 0x03F ∷ 0x02E ∷ 0x22E ∷ 0x03E ∷ []
 
 abbrev pub values : List ℕ
-values = 0x0 ∷ 0x7 ∷ 0x7 ∷ 0x8 ∷ 0x8 ∷ 0x8 ∷ 0x9 ∷ 0x9 ∷ 0xB ∷ 0xD ∷ 0xD ∷ 0xF ∷ []
+values = 0x0 ∷ 0x6 ∷ 0x7 ∷ 0x8 ∷ 0x8 ∷ 0x8 ∷ 0x9 ∷ 0x9 ∷ 0xB ∷ 0xD ∷ 0xD ∷ 0xF ∷ []
 
 pub twelve-by-rule : map pageCode indices ≡ values
-unfolding pageCode codeOf l2Entry isPageForm rightsOf mayRead mayWrite mayExecute num
+unfolding pageCode wordCode codeOf l2Entry isPageForm isLargeForm rightsOf mayRead mayWrite mayExecute num
 twelve-by-rule = refl
 
 -- entries 15: the rights that a map can grant
@@ -31,3 +31,8 @@ written-pages = refl
 pub written-sections : map (sectionBits cacheable) granted ≡ (0x41E ∷ 0x81E ∷ 0xC1E ∷ 0x80E ∷ [])
 unfolding sectionBits
 written-sections = refl
+
+-- entries 15: and of a large page
+pub written-larges : map (largeBits cacheable) granted ≡ (0x801D ∷ 0x802D ∷ 0x803D ∷ 0x002D ∷ [])
+unfolding largeBits
+written-larges = refl

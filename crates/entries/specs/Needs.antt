@@ -1,13 +1,17 @@
 -- What functions require: a word that lies in the memory, a place that has an address (RULES: entries, calls).
 use mathlib.Core.List.{List}
 use mathlib.Core.Path.{_≡_}
-use Prim.Native.Nat.{ℕ, _+_, _*_, _%_, _^_, _≤_, _<_}
+use Prim.Native.Nat.{ℕ, _+_, _*_, _/_, _%_, _^_, _≤_, _<_}
 use lib.ListN.{length}
-use Rattle.entries.specs.Entries.{sectionBlocks}
+use Rattle.entries.specs.Entries.{sectionBlocks, largeBlocks, runWords}
 
 -- calls 1, memory 4: word j lies in the lent memory
 abbrev pub HoldsWord : List ℕ → ℕ → Type 0
 HoldsWord mem j = 4 * j + 4 ≤ length mem
+
+-- calls 1, entries 21: so do the aligned sixteen words around it
+abbrev pub HoldsRun : List ℕ → ℕ → Type 0
+HoldsRun mem j = 4 * (runWords * (j / runWords) + runWords) ≤ length mem
 
 -- entries 8: b can be the block of a page, whose number has 20 bits
 abbrev pub IsBlock : ℕ → Type 0
@@ -16,6 +20,10 @@ IsBlock b = b < 2 ^ 20
 -- entries 7: b can be the first block of a section
 abbrev pub IsSectionStart : ℕ → Type 0
 IsSectionStart b = (b < 2 ^ 20) × (b % sectionBlocks ≡ 0)
+
+-- entries 20: b can be the first block of a large page
+abbrev pub IsLargeStart : ℕ → Type 0
+IsLargeStart b = (b < 2 ^ 20) × (b % largeBlocks ≡ 0)
 
 -- entries 6: p can be the address of an L2 table / 1,024, which has 22 bits
 abbrev pub IsTablePlace : ℕ → Type 0

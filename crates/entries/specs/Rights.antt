@@ -21,7 +21,7 @@ allows r execute = eqb (bits r 2 1) 1
 unfoldable pub unlawfulRights : ℕ → Bool
 unlawfulRights r = above r 7 || not (allows r read) && (allows r write || allows r execute)
 
--- entries 9: AP of an accepted section or page
+-- entries 9: AP of an accepted section or page, large or not
 abbrev pub acceptedAP : ℕ → Bool
 acceptedAP ap = neqb ap 0b100
 

@@ -1,5 +1,6 @@
 // What a word of a table means: ARMv7-A short descriptors (processor 1, entries 4 to 11).
 use crate::entry::Entry;
+use crate::entry::LARGE_BLOCKS;
 use crate::entry::Level;
 use crate::entry::Mapping;
 use crate::entry::SECTION_BLOCKS;
@@ -7,14 +8,14 @@ use crate::rights::rights_of;
 use crate::table::page_rights_at;
 use words::WORD_BYTES;
 ghost use mathlib.Core.Path.{_≡_};
-ghost use mathlib.Core.Bool.{true};
-ghost use mathlib.Core.List.{List};
-ghost use Prim.Native.Nat.{ℕ, _*_};
+ghost use mathlib.Core.Bool.{false, true};
+ghost use mathlib.Core.Logic.{_≢_};
+ghost use Prim.Native.Nat.{_*_};
 ghost use Rattle.words.specs.Words.{bits, word};
 ghost use Rattle.entries.specs.Rights.{rightsOf};
-ghost use Rattle.entries.specs.Entries.{entryAt, isLinkForm, isPageForm, isSectionForm, l1, l1Entry, l2, l2Entry, pageAP, pageXN, sectionAP, sectionBlocks, sectionXN, sectionZeros};
+ghost use Rattle.entries.specs.Entries.{entryAt, isLargeForm, isLinkForm, isPageForm, isRun, isSectionForm, l1, l1Entry, l2, pageAP, pageXN, sectionAP, sectionBlocks, sectionXN, sectionZeros, wordCode};
 ghost use Rattle.entries.specs.Meaning.{levelOf, meaning};
-ghost use Rattle.entries.specs.Needs.{HoldsWord};
+ghost use Rattle.entries.specs.Needs.{HoldsRun, HoldsWord};
 
 const FAULT_FORM: u32 = 0b00;
 
@@ -22,10 +23,18 @@ const LINK_FORM: u32 = 0b01;
 
 const SECTION_FORM: u32 = 0b10;
 
+const LARGE_FORM: u32 = 0b01;
+
 const UNACCEPTED_AP: u32 = 0b100;
 
-// From 8 on the numbers of the page rights are those of pages (entries 13).
+// The numbers of the page rights (entries 13): from 8 on those of pages, large or not.
+const FAULT_CODE: u8 = 0;
+
+const UNACCEPTED_CODE: u8 = 7;
+
 const LEAST_ACCEPTED: u8 = 8;
+
+const RUN_WORDS: usize = 16;
 
 // The access bits of a section (entries 7).
 fn section_ap(w: u32) -> u32
@@ -94,7 +103,7 @@ fn l1_entry(w: u32) -> Entry
     Entry::Unaccepted
 }
 
-// The access bits of a page (entries 8).
+// The access bits of a page, large or not (entries 8, entries 20).
 fn page_ap(w: u32) -> u32
     ensures { λ r. ⌜ r ≡ pageAP w ⌝ }
 {
@@ -120,8 +129,80 @@ fn page_mapping(w: u32) -> Mapping
     }
 }
 
-fn l2_entry(w: u32) -> Entry
-    ensures { λ r. ⌜ meaning r ≡ l2Entry w ⌝ }
+// The word has the form of a large page, with an AP that is accepted (entries 20, entries 9).
+fn is_large_form(w: u32) -> bool
+    ensures { λ r. ⌜ r ≡ isLargeForm w ⌝ }
+{
+    if words::bits(w, 0, 2) != LARGE_FORM {
+        return false;
+    }
+    if words::bits(w, 6, 3) != 0 {
+        return false;
+    }
+    page_ap(w) != UNACCEPTED_AP
+}
+
+// The page rights of a word with the low bits of a large page.
+fn large_code(w: u32) -> u8
+    requires { ⌜ bits w 0 2 ≡ 0b01 ⌝ }
+    ensures { λ r. ⌜ r ≡ wordCode w ⌝ }
+{
+    if !is_large_form(w) {
+        return UNACCEPTED_CODE;
+    }
+    LEAST_ACCEPTED + rights_of(page_ap(w), words::bits(w, 15, 1)) as u8
+}
+
+// The page rights of an L2 word (entries 13). The table has those of pages; low bits 01 are 6 there, which is to look at the whole word.
+pub fn word_code(w: u32) -> u8
+    ensures { λ r. ⌜ r ≡ wordCode w ⌝ }
+{
+    let form = words::bits(w, 0, 2);
+    if form == FAULT_FORM {
+        return FAULT_CODE;
+    }
+    if form == LARGE_FORM {
+        return large_code(w);
+    }
+    page_rights_at(words::bits(w, 0, 10) as usize)
+}
+
+// The aligned sixteen words around word j, which is w, are all w (entries 21).
+fn is_run(mem: &[u8], j: usize, w: u32) -> bool
+    requires { ⌜ HoldsRun (now mem) j × (w ≡ word (now mem) (4 * j)) ⌝ }
+    ensures { λ r. ⌜ r ≡ isRun (now (mem .entry)) j ⌝ }
+{
+    let start = j / RUN_WORDS * RUN_WORDS;
+    for k in 0..RUN_WORDS {
+        if words::word(mem, WORD_BYTES * (start + k)) != w {
+            return false;
+        }
+    }
+    true
+}
+
+// Word j of the memory, which is w, read as an entry of an L2 table. It is neither a fault nor a page.
+fn large_entry(mem: &[u8], j: usize, w: u32) -> Entry
+    requires { ⌜ HoldsRun (now mem) j × (w ≡ word (now mem) (4 * j)) ⌝ }
+    requires { ⌜ (bits w 0 2 ≢ 0b00) × (isPageForm w ≡ false) ⌝ }
+    ensures { λ r. ⌜ meaning r ≡ entryAt l2 (now (mem .entry)) j ⌝ }
+{
+    if !is_large_form(w) {
+        return Entry::Unaccepted;
+    }
+    if !is_run(mem, j, w) {
+        return Entry::Unaccepted;
+    }
+    Entry::Large(Mapping {
+        first: LARGE_BLOCKS * words::bits(w, 16, 16) + (j % RUN_WORDS) as u32,
+        rights: (word_code(w) - LEAST_ACCEPTED) as u32,
+    })
+}
+
+// Word j of the memory, which is w, read as an entry of an L2 table.
+fn l2_entry(mem: &[u8], j: usize, w: u32) -> Entry
+    requires { ⌜ HoldsRun (now mem) j × (w ≡ word (now mem) (4 * j)) ⌝ }
+    ensures { λ r. ⌜ meaning r ≡ entryAt l2 (now (mem .entry)) j ⌝ }
 {
     if words::bits(w, 0, 2) == FAULT_FORM {
         return Entry::Fault;
@@ -129,16 +210,17 @@ fn l2_entry(w: u32) -> Entry
     if is_page_form(w) {
         return Entry::Page(page_mapping(w));
     }
-    Entry::Unaccepted
+    large_entry(mem, j, w)
 }
 
-// The entry that a word w of a table of this level is.
-fn entry_of(level: Level, w: u32) -> Entry
-    ensures { λ r. ⌜ ((mem : List ℕ) (j : ℕ) → w ≡ word mem (4 * j) → meaning r ≡ entryAt (levelOf level) mem j) ⌝ }
+// Word j of the memory, which is w, read as an entry of a table of this level.
+fn entry_of(level: Level, mem: &[u8], j: usize, w: u32) -> Entry
+    requires { ⌜ HoldsRun (now mem) j × (w ≡ word (now mem) (4 * j)) ⌝ }
+    ensures { λ r. ⌜ meaning r ≡ entryAt (levelOf level) (now (mem .entry)) j ⌝ }
 {
     match level {
         Level::L1 => l1_entry(w),
-        Level::L2 => l2_entry(w),
+        Level::L2 => l2_entry(mem, j, w),
     }
 }
 
@@ -147,26 +229,26 @@ pub fn l1_entry_at(mem: &[u8], j: usize) -> Entry
     requires { ⌜ HoldsWord (now mem) j ⌝ }
     ensures { λ r. ⌜ meaning r ≡ entryAt l1 (now (mem .entry)) j ⌝ }
 {
-    entry_of(Level::L1, words::word(mem, WORD_BYTES * j))
+    l1_entry(words::word(mem, WORD_BYTES * j))
 }
 
 // Word j of the memory, read as an entry of an L2 table.
 pub fn l2_entry_at(mem: &[u8], j: usize) -> Entry
-    requires { ⌜ HoldsWord (now mem) j ⌝ }
+    requires { ⌜ HoldsRun (now mem) j ⌝ }
     ensures { λ r. ⌜ meaning r ≡ entryAt l2 (now (mem .entry)) j ⌝ }
 {
-    entry_of(Level::L2, words::word(mem, WORD_BYTES * j))
+    entry_of(Level::L2, mem, j, words::word(mem, WORD_BYTES * j))
 }
 
 // Word j of the memory, read as an entry of a table of this level. Faults, which fill most tables, are told apart first: a test that is small enough to be
 // compiled into the loops over a table, as `entry_of` is not.
 pub fn entry_at(level: Level, mem: &[u8], j: usize) -> Entry
-    requires { ⌜ HoldsWord (now mem) j ⌝ }
+    requires { ⌜ HoldsRun (now mem) j ⌝ }
     ensures { λ r. ⌜ meaning r ≡ entryAt (levelOf level) (now (mem .entry)) j ⌝ }
 {
     let w = words::word(mem, WORD_BYTES * j);
     if words::bits(w, 0, 2) == FAULT_FORM {
         return Entry::Fault;
     }
-    entry_of(level, w)
+    entry_of(level, mem, j, w)
 }

@@ -1,9 +1,9 @@
 // The words that are written: place, access bits and memory kind (entries 15, entries 16).
 ghost use mathlib.Core.Path.{_≡_};
 ghost use Prim.Native.Nat.{ℕ, _<_, _^_};
-ghost use Rattle.entries.specs.Entries.{link, page, section};
-ghost use Rattle.entries.specs.Written.{pageBits, sectionBits, wordOf, writtenAP, writtenXN};
-ghost use Rattle.entries.specs.Needs.{IsBlock, IsSectionStart, IsTablePlace};
+ghost use Rattle.entries.specs.Entries.{large, link, page, section};
+ghost use Rattle.entries.specs.Written.{largeBits, pageBits, sectionBits, wordOf, writtenAP, writtenXN};
+ghost use Rattle.entries.specs.Needs.{IsBlock, IsLargeStart, IsSectionStart, IsTablePlace};
 
 // The memory kind of all that is written: C and B set.
 pub const CACHEABLE: u32 = 0b11;
@@ -21,6 +21,8 @@ const SECTION: u32 = 0b10;
 
 const PAGE: u32 = 0b10;
 
+const LARGE: u32 = 0b01;
+
 // The lowest bit of each field. B and C, the bits of TEX, and S and nG stand side by side.
 const B: u32 = 0x4;
 
@@ -29,6 +31,10 @@ const PAGE_AP: u32 = 0x10;
 const PAGE_TEX: u32 = 0x40;
 
 const PAGE_S: u32 = 0x400;
+
+const LARGE_TEX: u32 = 0x1000;
+
+const LARGE_XN: u32 = 0x8000;
 
 const SECTION_XN: u32 = 0x10;
 
@@ -42,7 +48,7 @@ const BLOCK_BYTES: u32 = signature::golden::BLOCK_BYTES as u32;
 
 const TABLE_BYTES: u32 = 1024;
 
-// The access bits for rights in a call: bit 9 of a page's AP and bit 15 of a section's stay clear.
+// The access bits for rights in a call: the third, bit 9 of a page's word and bit 15 of a section's, stays clear.
 fn written_ap(rights: u32) -> u32
     ensures { λ r. ⌜ (r ≡ writtenAP rights) × (r < 4) ⌝ }
 {
@@ -73,6 +79,18 @@ fn page_bits(kind: u32, rights: u32) -> u32
         + written_xn(rights)
 }
 
+// The low bits of a large page's word: AP, S and nG stand as in a page's.
+fn large_bits(kind: u32, rights: u32) -> u32
+    ensures { λ r. ⌜ (r ≡ largeBits kind rights) × (r < 2 ^ 16) ⌝ }
+{
+    B * words::bits(kind, 0, 2)
+        + LARGE_TEX * words::bits(kind, 2, 3)
+        + PAGE_S * words::bits(kind, 5, 2)
+        + PAGE_AP * written_ap(rights)
+        + LARGE_XN * written_xn(rights)
+        + LARGE
+}
+
 // The low bits of a section's word.
 fn section_bits(kind: u32, rights: u32) -> u32
     ensures { λ r. ⌜ (r ≡ sectionBits kind rights) × (r < 2 ^ 18) ⌝ }
@@ -91,6 +109,14 @@ pub fn page_word(kind: u32, block: u32, rights: u32) -> u32
     ensures { λ r. ⌜ r ≡ wordOf kind (page block rights) ⌝ }
 {
     BLOCK_BYTES * block + page_bits(kind, rights)
+}
+
+// The word of a large page that starts at a block.
+pub fn large_word(kind: u32, block: u32, rights: u32) -> u32
+    requires { ⌜ IsLargeStart block ⌝ }
+    ensures { λ r. ⌜ r ≡ wordOf kind (large block rights) ⌝ }
+{
+    BLOCK_BYTES * block + large_bits(kind, rights)
 }
 
 // The word of a section that starts at a block.

@@ -1,9 +1,9 @@
 // What a word of a table can be (entries 4, forms 8).
 ghost use mathlib.Core.Path.{_≡_};
-ghost use Rattle.entries.specs.Entries.{coverBlocks, coverFirst, isFault, isLink, isPage, isSection, isUnaccepted, placeBlocks, placeFirst, rights};
+ghost use Rattle.entries.specs.Entries.{coverBlocks, coverFirst, isFault, isLarge, isLink, isPage, isSection, isUnaccepted, placeBlocks, placeFirst, rights};
 ghost use Rattle.entries.specs.Meaning.{meaning};
 
-// The first block of a section or a page, and what the guest may do there.
+// What the guest may do in a section or a page, and its first block; for an entry of a large page, its own one of the sixteen blocks.
 pub struct Mapping {
     pub first: u32,
     pub rights: u32,
@@ -17,6 +17,7 @@ pub enum Entry {
     Link(u32),
     Section(Mapping),
     Page(Mapping),
+    Large(Mapping),
 }
 
 // The level of a table.
@@ -29,6 +30,8 @@ pub const BLOCK_TABLES: u32 = 4;
 
 pub const SECTION_BLOCKS: u32 = 256;
 
+pub const LARGE_BLOCKS: u32 = 16;
+
 pub fn is_fault(e: Entry) -> bool
     ensures { λ r. ⌜ r ≡ isFault (meaning e) ⌝ }
 {
@@ -38,6 +41,7 @@ pub fn is_fault(e: Entry) -> bool
         Entry::Link(_) => false,
         Entry::Section(_) => false,
         Entry::Page(_) => false,
+        Entry::Large(_) => false,
     }
 }
 
@@ -50,6 +54,7 @@ pub fn is_unaccepted(e: Entry) -> bool
         Entry::Link(_) => false,
         Entry::Section(_) => false,
         Entry::Page(_) => false,
+        Entry::Large(_) => false,
     }
 }
 
@@ -62,6 +67,7 @@ pub fn is_link(e: Entry) -> bool
         Entry::Link(_) => true,
         Entry::Section(_) => false,
         Entry::Page(_) => false,
+        Entry::Large(_) => false,
     }
 }
 
@@ -74,6 +80,7 @@ pub fn is_section(e: Entry) -> bool
         Entry::Link(_) => false,
         Entry::Section(_) => true,
         Entry::Page(_) => false,
+        Entry::Large(_) => false,
     }
 }
 
@@ -86,6 +93,20 @@ pub fn is_page(e: Entry) -> bool
         Entry::Link(_) => false,
         Entry::Section(_) => false,
         Entry::Page(_) => true,
+        Entry::Large(_) => false,
+    }
+}
+
+pub fn is_large(e: Entry) -> bool
+    ensures { λ r. ⌜ r ≡ isLarge (meaning e) ⌝ }
+{
+    match e {
+        Entry::Fault => false,
+        Entry::Unaccepted => false,
+        Entry::Link(_) => false,
+        Entry::Section(_) => false,
+        Entry::Page(_) => false,
+        Entry::Large(_) => true,
     }
 }
 
@@ -98,6 +119,7 @@ pub fn rights(e: Entry) -> u32
         Entry::Link(_) => 0,
         Entry::Section(m) => m.rights,
         Entry::Page(m) => m.rights,
+        Entry::Large(m) => m.rights,
     }
 }
 
@@ -111,6 +133,7 @@ pub fn place_first(e: Entry) -> u32
         Entry::Link(place) => place / BLOCK_TABLES,
         Entry::Section(m) => m.first,
         Entry::Page(m) => m.first,
+        Entry::Large(m) => m.first / LARGE_BLOCKS * LARGE_BLOCKS,
     }
 }
 
@@ -124,6 +147,7 @@ pub fn place_blocks(e: Entry) -> u32
         Entry::Link(_) => 1,
         Entry::Section(_) => SECTION_BLOCKS,
         Entry::Page(_) => 1,
+        Entry::Large(_) => LARGE_BLOCKS,
     }
 }
 
@@ -131,12 +155,26 @@ pub fn place_blocks(e: Entry) -> u32
 pub fn cover_first(e: Entry) -> u32
     ensures { λ r. ⌜ r ≡ coverFirst (meaning e) ⌝ }
 {
-    place_first(e)
+    match e {
+        Entry::Fault => 0,
+        Entry::Unaccepted => 0,
+        Entry::Link(place) => place / BLOCK_TABLES,
+        Entry::Section(m) => m.first,
+        Entry::Page(m) => m.first,
+        Entry::Large(m) => m.first,
+    }
 }
 
 // The number of these blocks.
 pub fn cover_blocks(e: Entry) -> u32
     ensures { λ r. ⌜ r ≡ coverBlocks (meaning e) ⌝ }
 {
-    place_blocks(e)
+    match e {
+        Entry::Fault => 0,
+        Entry::Unaccepted => 0,
+        Entry::Link(_) => 1,
+        Entry::Section(_) => SECTION_BLOCKS,
+        Entry::Page(_) => 1,
+        Entry::Large(_) => 1,
+    }
 }

@@ -7,7 +7,7 @@ use Prim.Native.Nat.{ℕ, zero, suc, _+_, _*_, _-_, _/_, _<_, _≤_}
 use native.Mathlib.Nat.{mod-lt}
 use native.Mathlib.Omega.{arith}
 use Rattle.words.specs.Words.{bits}
-use Rattle.entries.specs.Entries.{Entry, fault, unaccepted, link, section, page, Level, l1, l2, entryAt, isFault, isUnaccepted, placeFirst, coverFirst, placeBlocks, coverBlocks, blockTables}
+use Rattle.entries.specs.Entries.{Entry, fault, unaccepted, link, section, page, large, Level, l1, l2, entryAt, isFault, isUnaccepted, placeFirst, coverFirst, placeBlocks, coverBlocks, blockTables}
 use Rattle.entries.proofs.Covers.{cover-some}
 use Rattle.rules.specs.Store.{blockBytes, blockWords}
 use Rattle.rules.specs.Tables.{astray}
@@ -82,6 +82,7 @@ module _ (B n addr : ℕ) where
   onward-in-region memory (link place) i = let e = secondEntry B memory addr place in at-entry l2 e (endsAt l2 addr e) (at-end l2 e)
   onward-in-region memory (section b r) i = at-end l1 (section b r) i
   onward-in-region memory (page b r) i = at-end l1 (page b r) i
+  onward-in-region memory (large b r) i = at-end l1 (large b r) i
 
   pub walk-in-region : (memory : List ℕ) (table : ℕ) → InRegion B n (walk B n memory table addr)
   unfolding walk

@@ -25,7 +25,7 @@ use Rattle.ledger.proofs.Judge.{Decides, decides}
 use Rattle.mapping.specs.Pieces.{holderRefusals, mapPlaceRefusals, mapTargetRefusals}
 use Rattle.mapping.specs.Needs.{InTable, Slot}
 use Rattle.mapping.proofs.Slots.{slot}
-use Rattle.mapping.proofs.Windows.{mapping-spreads, mapping-words-alike}
+use Rattle.mapping.proofs.Windows.{mapping-spreads, mapping-words-alike, fill-same}
 
 -- 10 does not apply, so the target is in the region
 pub unfit-inside : (f : Form) (s : Store) (p i t r : ℕ) → unfitTarget f s p i t r ≡ false → outside (base s) (blocks s) t (targetBlocks f) ≡ false
@@ -90,10 +90,6 @@ module _ (f : Form) (golden : List ℕ) (s : Store) (p i t r : ℕ) where
           ((λ c g. inside), countable added s (mapping f t r 0) t (targetBlocks f) (mapping-spreads f t r) t1 (λ c g. inside) (now (rest (rest (rest from10))))),
         )
 
-  pub map-memory : {w m : ℕ} {memory : List ℕ} → w ≡ wordOf cacheable (mapping f t r 0) → m ≡ mappingWords f → memory ≡ fill (s .memory) (wordIndex s p i) m (λ k. w)
+  pub map-memory : {w m : ℕ} {memory : List ℕ} → t % targetBlocks f ≡ 0 → w ≡ wordOf cacheable (mapping f t r 0) → m ≡ mappingWords f → memory ≡ fill (s .memory) (wordIndex s p i) m (λ k. w)
       → memory ≡ fill (s .memory) (wordIndex s p i) (mappingWords f) (λ k. wordOf cacheable (mapping f t r k))
-  map-memory is number h =
-      let each : ℕ → ℕ = λ k. wordOf cacheable (mapping f t r k) in
-      let first : ℕ → ℕ = λ k. wordOf cacheable (mapping f t r 0) in
-      let alike : first ≡ each = λ j k. sym (mapping-words-alike f cacheable t r k) j in
-      rw (is, number) at h ∙ ap (fill (s .memory) (wordIndex s p i) (mappingWords f)) alike
+  map-memory aligned is number h = rw (is, number) at h ∙ fill-same (s .memory) (wordIndex s p i) (mappingWords f) _ _ (λ k l. sym (mapping-words-alike f cacheable t r k aligned l))

@@ -16,7 +16,7 @@ use Rattle.rules.specs.Map.{unfitTarget, clashingTarget, unsignedTarget}
 abbrev pub holderRefusals : Level → Store → ℕ → ℕ → List Refusal
 holderRefusals v s p i = 5 if otherType v s p (typeCode v) ∷ 7 if executableHolder s p i ∷ []
 
--- unmap list: from 1 to 7; an index is a multiple of the words of a mapping, which none breaks while these are one
+-- unmap list: from 1 to 7
 abbrev pub slotRefusals : Form → Store → ℕ → ℕ → List Refusal
 slotRefusals f s p i =
     1 if misfit s (base s) ∷ 2 if tableOutside (level f) s p ∷ 3 if misaligned p (tableBlocks (level f)) ∷ 3 if misaligned i (mappingWords f) ∷ 4 if beyondTable (level f) i
@@ -31,7 +31,7 @@ removalRefusals f s x =
 abbrev pub linkTargetRefusals : Store → ℕ → ℕ → List Refusal
 linkTargetRefusals s t j = 10 if tableOutside l2 s t ∷ 10 if neqb (typeOf s t) (typeCode l2) ∷ 13 if someOverrun added s 1 (λ k. linkTo t j) ∷ []
 
--- map list: from 1 to 4; an index is a multiple of the words of a mapping, which none breaks while these are one
+-- map list: from 1 to 4
 abbrev pub mapPlaceRefusals : Form → List ℕ → Store → ℕ → ℕ → ℕ → List Refusal
 mapPlaceRefusals f golden s p i t =
     1 if misfit s (base s) ∷ imageRefusals golden ++ 2 if tableOutside (level f) s p ∷ 3 if misaligned p (tableBlocks (level f))

@@ -1,12 +1,15 @@
-// What can be mapped: sections in an L1 table, pages in an L2 block.
+// What can be mapped: sections in an L1 table, pages and large pages in an L2 block.
 use entries::encode::CACHEABLE;
+use entries::encode::large_word;
 use entries::encode::page_word;
 use entries::encode::section_word;
 use entries::entry::Entry;
+use entries::entry::LARGE_BLOCKS;
 use entries::entry::Level;
 use entries::entry::Mapping;
 use entries::entry::SECTION_BLOCKS;
 use entries::entry::is_fault;
+use entries::entry::is_large;
 use entries::entry::is_link;
 use entries::entry::is_page;
 use entries::entry::is_section;
@@ -21,7 +24,11 @@ ghost use Rattle.mapping.specs.Needs.{Positive};
 pub enum Form {
     Sections,
     Pages,
+    Larges,
 }
+
+// The words of a large page, one for each of its blocks.
+const RUN_WORDS: u32 = 16;
 
 pub fn level(form: Form) -> Level
     ensures { λ r. ⌜ levelOf r ≡ tables.level (formOf form) ⌝ }
@@ -29,6 +36,7 @@ pub fn level(form: Form) -> Level
     match form {
         Form::Sections => Level::L1,
         Form::Pages => Level::L2,
+        Form::Larges => Level::L2,
     }
 }
 
@@ -39,6 +47,7 @@ pub fn target_blocks(form: Form) -> u32
     match form {
         Form::Sections => SECTION_BLOCKS,
         Form::Pages => 1,
+        Form::Larges => LARGE_BLOCKS,
     }
 }
 
@@ -49,6 +58,7 @@ pub fn mapping_words(form: Form) -> u32
     match form {
         Form::Sections => 1,
         Form::Pages => 1,
+        Form::Larges => RUN_WORDS,
     }
 }
 
@@ -65,6 +75,10 @@ pub fn mapping(form: Form, target: u32, rights: u32) -> Entry
             first: target,
             rights,
         }),
+        Form::Larges => Entry::Large(Mapping {
+            first: target,
+            rights,
+        }),
     }
 }
 
@@ -76,18 +90,27 @@ pub fn mapping_word(form: Form, target: u32, rights: u32) -> u32
     match form {
         Form::Sections => section_word(CACHEABLE, target, rights),
         Form::Pages => page_word(CACHEABLE, target, rights),
+        Form::Larges => large_word(CACHEABLE, target, rights),
     }
+}
+
+// Unmap L1 takes the entry away.
+fn is_taken_in_l1(e: Entry) -> bool
+    ensures { λ r. ⌜ r ≡ tables.takes tables.sections (meaning e) ⌝ }
+{
+    if is_fault(e) {
+        return true;
+    }
+    is_section(e) || is_link(e)
 }
 
 // The form's unmap takes the entry away.
 pub fn takes(form: Form, e: Entry) -> bool
     ensures { λ r. ⌜ r ≡ tables.takes (formOf form) (meaning e) ⌝ }
 {
-    if is_fault(e) {
-        return true;
-    }
     match form {
-        Form::Sections => is_section(e) || is_link(e),
-        Form::Pages => is_page(e),
+        Form::Sections => is_taken_in_l1(e),
+        Form::Pages => is_fault(e) || is_page(e),
+        Form::Larges => is_large(e),
     }
 }

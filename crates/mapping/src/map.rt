@@ -1,4 +1,4 @@
-// Map: a section in an L1 table, a page in an L2 block (RULES: map).
+// Map: a section in an L1 table, a page or a large page in an L2 block (RULES: map).
 use crate::form::Form;
 use crate::form::level;
 use crate::form::mapping;
@@ -103,7 +103,7 @@ fn map_refusal(
     target_refusal(form, memory, ledger, golden, request, e)
 }
 
-// The word at the index, and the counts of the mapping (map leaves).
+// The words from the index on, and the counts of the mapping (map leaves).
 pub fn map(form: Form, memory: &mut [u8], ledger: &mut [u8], golden: &[u8], request: Request) -> u32
     ensures { λ r. ⌜ r ≡ mapOutcome (formOf form) (now (golden .entry)) (lent (now (memory .entry)) (now (ledger .entry))) (request .block) (request .index) (request .target) (request .rights) .answer ⌝ }
     ensures { λ r. ⌜ lent (now (memory .exit)) (now (ledger .exit)) ≡ mapOutcome (formOf form) (now (golden .entry)) (lent (now (memory .entry)) (now (ledger .entry))) (request .block) (request .index) (request .target) (request .rights) .after ⌝ }

@@ -6,14 +6,14 @@ use lib.ListN.{length}
 use lib.Seq.{take-append-seam}
 use Rattle.entries.specs.Entries.{l1, l2}
 use Rattle.rules.specs.Store.{Store}
-use Rattle.rules.specs.Tables.{sections, pages}
+use Rattle.rules.specs.Tables.{sections, pages, larges}
 use Rattle.rules.specs.Guest.{reads, fetches, writes}
 use Rattle.rules.specs.Steps.{Step, begins, creates, frees, maps, links, unmaps, switches, accesses, obey, run}
 use Rattle.rules.specs.Demand3.{storeAt}
 use Rattle.rules.specs.Upheld.{Upholds}
 use Rattle.rules.proofs.Outcomes.{begin-byte, create-byte, free-byte, map-byte, link-byte, unmap-byte, switch-byte, write-byte}
 use Rattle.rules.proofs.Upheld.{run-upholds-demand3}
-use Rattle.monitor.specs.Calls.{Called, pagemon-begin, pagemon-create-l1, pagemon-create-l2, pagemon-free-l1, pagemon-free-l2, pagemon-map-l1, pagemon-map-l2, pagemon-link, pagemon-unmap-l1, pagemon-unmap-l2, pagemon-switch, pagemon-read, pagemon-fetch, pagemon-write, Calls, done, call}
+use Rattle.monitor.specs.Calls.{Called, pagemon-begin, pagemon-create-l1, pagemon-create-l2, pagemon-free-l1, pagemon-free-l2, pagemon-map-l1, pagemon-map-l2, pagemon-map-large, pagemon-link, pagemon-unmap-l1, pagemon-unmap-l2, pagemon-unmap-large, pagemon-switch, pagemon-read, pagemon-fetch, pagemon-write, Calls, done, call}
 
 -- a call obeys its step
 pub called-obeys : {golden : List ℕ} {s after : Store} {step : Step} {answer byte : ℕ} → Called golden s step after answer byte
@@ -26,9 +26,11 @@ called-obeys (pagemon-free-l1 a l) = (a, (free-byte _ _ _, l))
 called-obeys (pagemon-free-l2 a l) = (a, (free-byte _ _ _, l))
 called-obeys (pagemon-map-l1 a l) = (a, (map-byte _ _ _ _ _ _ _, l))
 called-obeys (pagemon-map-l2 a l) = (a, (map-byte _ _ _ _ _ _ _, l))
+called-obeys (pagemon-map-large a l) = (a, (map-byte _ _ _ _ _ _ _, l))
 called-obeys (pagemon-link a l) = (a, (link-byte _ _ _ _ _, l))
 called-obeys (pagemon-unmap-l1 a l) = (a, (unmap-byte _ _ _ _, l))
 called-obeys (pagemon-unmap-l2 a l) = (a, (unmap-byte _ _ _ _, l))
+called-obeys (pagemon-unmap-large a l) = (a, (unmap-byte _ _ _ _, l))
 called-obeys (pagemon-switch a l) = (a, (switch-byte _ _, l))
 called-obeys (pagemon-read a b l) = (a, (b, l))
 called-obeys (pagemon-fetch a b l) = (a, (b, l))
@@ -66,9 +68,11 @@ step-called golden s (frees l1 block) = rw (← free-byte l1 s block) (pagemon-f
 step-called golden s (frees l2 block) = rw (← free-byte l2 s block) (pagemon-free-l2 refl refl)
 step-called golden s (maps sections block index target rights) = rw (← map-byte sections golden s block index target rights) (pagemon-map-l1 refl refl)
 step-called golden s (maps pages block index target rights) = rw (← map-byte pages golden s block index target rights) (pagemon-map-l2 refl refl)
+step-called golden s (maps larges block index target rights) = rw (← map-byte larges golden s block index target rights) (pagemon-map-large refl refl)
 step-called golden s (links block index target table) = rw (← link-byte s block index target table) (pagemon-link refl refl)
 step-called golden s (unmaps sections block index) = rw (← unmap-byte sections s block index) (pagemon-unmap-l1 refl refl)
 step-called golden s (unmaps pages block index) = rw (← unmap-byte pages s block index) (pagemon-unmap-l2 refl refl)
+step-called golden s (unmaps larges block index) = rw (← unmap-byte larges s block index) (pagemon-unmap-large refl refl)
 step-called golden s (switches block) = rw (← switch-byte s block) (pagemon-switch refl refl)
 step-called golden s (accesses reads address) = pagemon-read refl refl refl
 step-called golden s (accesses fetches address) = pagemon-fetch refl refl refl

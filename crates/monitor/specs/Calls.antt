@@ -4,7 +4,7 @@ use mathlib.Core.Path.{_≡_}
 use Prim.Native.Nat.{ℕ}
 use Rattle.entries.specs.Entries.{l1, l2}
 use Rattle.rules.specs.Store.{Store}
-use Rattle.rules.specs.Tables.{sections, pages}
+use Rattle.rules.specs.Tables.{sections, pages, larges}
 use Rattle.rules.specs.Begin.{beginOutcome}
 use Rattle.rules.specs.Create.{createOutcome}
 use Rattle.rules.specs.Free.{freeOutcome}
@@ -34,6 +34,9 @@ pub data Called (golden : List ℕ) (s : Store) : Step → Store → ℕ → ℕ
   pagemon-map-l2 : {block index target rights answer : ℕ} {after : Store}
       → answer ≡ mapOutcome pages golden s block index target rights .answer → after ≡ mapOutcome pages golden s block index target rights .after
       → Called golden s (maps pages block index target rights) after answer 0
+  pagemon-map-large : {block index target rights answer : ℕ} {after : Store}
+      → answer ≡ mapOutcome larges golden s block index target rights .answer → after ≡ mapOutcome larges golden s block index target rights .after
+      → Called golden s (maps larges block index target rights) after answer 0
   pagemon-link : {block index target table answer : ℕ} {after : Store}
       → answer ≡ linkOutcome s block index target table .answer → after ≡ linkOutcome s block index target table .after
       → Called golden s (links block index target table) after answer 0
@@ -41,6 +44,8 @@ pub data Called (golden : List ℕ) (s : Store) : Step → Store → ℕ → ℕ
       → Called golden s (unmaps sections block index) after answer 0
   pagemon-unmap-l2 : {block index answer : ℕ} {after : Store} → answer ≡ unmapOutcome pages s block index .answer → after ≡ unmapOutcome pages s block index .after
       → Called golden s (unmaps pages block index) after answer 0
+  pagemon-unmap-large : {block index answer : ℕ} {after : Store} → answer ≡ unmapOutcome larges s block index .answer → after ≡ unmapOutcome larges s block index .after
+      → Called golden s (unmaps larges block index) after answer 0
   pagemon-switch : {block answer : ℕ} {after : Store} → answer ≡ switchOutcome s block .answer → after ≡ switchOutcome s block .after
       → Called golden s (switches block) after answer 0
   pagemon-read : {address answer byte : ℕ} {after : Store}

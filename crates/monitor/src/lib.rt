@@ -13,7 +13,7 @@ ghost use Rattle.rules.specs.Link.{linkOutcome};
 ghost use Rattle.rules.specs.Map.{mapOutcome};
 ghost use Rattle.rules.specs.Store.{lent};
 ghost use Rattle.rules.specs.Switch.{switchOutcome};
-ghost use Rattle.rules.specs.Tables.{pages, sections};
+ghost use Rattle.rules.specs.Tables.{larges, pages, sections};
 ghost use Rattle.rules.specs.Unmap.{unmapOutcome};
 
 // Begin: a region starts at this block.
@@ -117,6 +117,29 @@ pub extern "C" fn pagemon_map_l2(
     mapping::map::map(Form::Pages, memory, ledger, golden, request)
 }
 
+// Map large: a large page of sixteen blocks with these rights, in the sixteen words from an index of an L2 block.
+#[no_mangle]
+pub extern "C" fn pagemon_map_large(
+    memory: &mut [u8],
+    ledger: &mut [u8],
+    golden: &[u8],
+    block: u32,
+    index: u32,
+    target: u32,
+    rights: u32,
+) -> u32
+    ensures { λ r. ⌜ r ≡ mapOutcome larges (now (golden .entry)) (lent (now (memory .entry)) (now (ledger .entry))) block index target rights .answer ⌝ }
+    ensures { λ r. ⌜ lent (now (memory .exit)) (now (ledger .exit)) ≡ mapOutcome larges (now (golden .entry)) (lent (now (memory .entry)) (now (ledger .entry))) block index target rights .after ⌝ }
+{
+    let request = Request {
+        block,
+        index,
+        target,
+        rights,
+    };
+    mapping::map::map(Form::Larges, memory, ledger, golden, request)
+}
+
 // Link: an L2 table, at an index of an L1 table.
 #[no_mangle]
 pub extern "C" fn pagemon_link(
@@ -159,6 +182,20 @@ pub extern "C" fn pagemon_unmap_l2(
     ensures { λ r. ⌜ lent (now (memory .exit)) (now (ledger .exit)) ≡ unmapOutcome pages (lent (now (memory .entry)) (now (ledger .entry))) block index .after ⌝ }
 {
     mapping::unmap::unmap(Form::Pages, memory, ledger, block, index)
+}
+
+// Unmap large: the sixteen entries of the large page at an index of an L2 block become faults.
+#[no_mangle]
+pub extern "C" fn pagemon_unmap_large(
+    memory: &mut [u8],
+    ledger: &mut [u8],
+    block: u32,
+    index: u32,
+) -> u32
+    ensures { λ r. ⌜ r ≡ unmapOutcome larges (lent (now (memory .entry)) (now (ledger .entry))) block index .answer ⌝ }
+    ensures { λ r. ⌜ lent (now (memory .exit)) (now (ledger .exit)) ≡ unmapOutcome larges (lent (now (memory .entry)) (now (ledger .entry))) block index .after ⌝ }
+{
+    mapping::unmap::unmap(Form::Larges, memory, ledger, block, index)
 }
 
 // Switch: the L1 table at a block is put in use.

@@ -1,23 +1,25 @@
 -- A mapping of rights 0 or 1, a link, and the unmap of a fault are accepted wherever table, holder, entry and target are right: each test of their
--- lists is passed by one of these. At an index beyond the table they are answered with 4.
+-- lists is passed by one of these. At an index beyond the table they are answered with 4, and at one that is no multiple of a mapping's words with 3.
 use mathlib.Core.Bool.{true, false, not, false≢true}
 use mathlib.Core.List.{List}
+use mathlib.Core.Logic.{_≢_}
 use mathlib.Core.Path.{_≡_, refl, _∙_, ap}
 use Prim.Native.Nat.{ℕ, zero, suc, _+_, _%_, _<_, _≤_}
 use native.Mathlib.Omega.{arith}
+use lib.ListN.{drop}
 use borrow.Author.Tests.{le-ltb, lt-leb, le-leb, ltb-true}
 use Rattle.words.specs.Bounded.{above, neqb}
-use Rattle.words.proofs.Bounded.{any-avoids, false-unless, and-true, same}
+use Rattle.words.proofs.Bounded.{any-avoids, false-unless, and-true, differ, same}
 use Rattle.signature.specs.Signed.{misfitImage}
 use Rattle.entries.specs.Entries.{Entry, fault, Level, l1, l2, blockTables, isFault, isLink, rights, placeFirst, coverFirst, placeBlocks, coverBlocks}
 use Rattle.entries.specs.Rights.{write, execute, allows, unlawfulRights}
 use Rattle.rules.specs.Store.{counterLimit, Store, blocks, base, Counter, writable, executable, linked, someCounter, typeOf, counter, someBlock, misfit}
 use Rattle.rules.specs.Tables.{typeCode, tableBlocks, tableEntries, Form, sections, pages, level, targetBlocks, mappingWords, mapping, takes, tableEntry, grants, gives, gain, astray}
 use Rattle.rules.specs.General.{tableOutside, misaligned, otherType, holder, executableHolder, Change, added, removed, endValue, endsBelow, overruns, someOverrun, occupied}
-use Rattle.rules.specs.Map.{unfitTarget, clashingTarget, unsignedTarget, mapOutcome}
+use Rattle.rules.specs.Map.{unfitTarget, clashingTarget, unsignedTarget, mapRefusals, mapOutcome}
 use Rattle.rules.specs.Link.{linkTo, linkOutcome}
-use Rattle.rules.specs.Unmap.{unmapOutcome}
-use Rattle.rules.proofs.Refusals.{done, step, accepted, here, past, decides}
+use Rattle.rules.specs.Unmap.{unmapRefusals, unmapOutcome}
+use Rattle.rules.proofs.Refusals.{done, step, accepted, Decides, here, past, none, decides}
 use Rattle.rules.proofs.Gains.{gives-fault, gives-within, gain-most, gain-none, gain-found}
 use Rattle.rules.proofs.State.{inside}
 use Rattle.rules.proofs.Mapping.{mapping-grants}
@@ -32,11 +34,15 @@ pub record TablePlace (v : Level) (s : Store) (p : ℕ) : Type 0 where
   pub high : p + tableBlocks v ≤ base s + blocks s
   pub aligned : p % tableBlocks v ≡ 0
 
--- the blocks are such a table, and a mapping of this form finds faults from index i on, in a block that cannot be executed
-pub record Vacant (f : Form) (s : Store) (p i : ℕ) : Type 0 where
-  pub placed : TablePlace (level f) s p
-  pub typed : (k : ℕ) → k < tableBlocks (level f) → typeOf s (p + k) ≡ typeCode (level f)
+-- the blocks are such a table, and the holder of its entry i cannot be executed: 5 and 7 hold nothing against them either
+pub record Ready (v : Level) (s : Store) (p i : ℕ) : Type 0 where
+  pub placed : TablePlace v s p
+  pub typed : (k : ℕ) → k < tableBlocks v → typeOf s (p + k) ≡ typeCode v
   pub unexecuted : counter executable s (holder p i) ≡ 0
+
+-- and a mapping of this form finds faults from index i on
+pub record Vacant (f : Form) (s : Store) (p i : ℕ) : Type 0 where
+  pub ready : Ready (level f) s p i
   pub empty : (k : ℕ) → k < mappingWords f → tableEntry (level f) s p (i + k) ≡ fault
 
 -- rights 0 or 1 are asked for, of a target in the region, with an image of a length that fits
@@ -62,17 +68,17 @@ module _ {v : Level} {s : Store} {p : ℕ} (at : TablePlace v s p) where
   at-multiple : misaligned p (tableBlocks v) ≡ false
   at-multiple = same (p % tableBlocks v) 0 (at .aligned)
 
-module _ {f : Form} {s : Store} {p i : ℕ} (room : Vacant f s p i) where
-  right-types : otherType (level f) s p (typeCode (level f)) ≡ false
+module _ {v : Level} {s : Store} {p i : ℕ} (table : Ready v s p i) where
+  right-types : otherType v s p (typeCode v) ≡ false
   unfolding someBlock
-  right-types = any-avoids (λ k. neqb (typeOf s (p + k)) (typeCode (level f))) (tableBlocks (level f)) (λ k l. same _ _ (room .typed k l))
+  right-types = any-avoids (λ k. neqb (typeOf s (p + k)) (typeCode v)) (tableBlocks v) (λ k l. same _ _ (table .typed k l))
 
   no-executable : executableHolder s p i ≡ false
-  no-executable = le-ltb 0 (counter executable s (holder p i)) (omega (arith, room .unexecuted))
+  no-executable = le-ltb 0 (counter executable s (holder p i)) (omega (arith, table .unexecuted))
 
-  unoccupied : occupied (level f) s p i (mappingWords f) ≡ false
-  unfolding isFault
-  unoccupied = any-avoids (λ k. not (isFault (tableEntry (level f) s p (i + k)))) (mappingWords f) (λ k l. rw (room .empty k l) refl)
+unoccupied : {f : Form} {s : Store} {p i : ℕ} → Vacant f s p i → occupied (level f) s p i (mappingWords f) ≡ false
+unfolding isFault
+unoccupied {f} {s} {p} {i} room = any-avoids (λ k. not (isFault (tableEntry (level f) s p (i + k)))) (mappingWords f) (λ k l. rw (room .empty k l) refl)
 
 -- 13 does not apply if no counter passes its bounds
 none-overruns : (d : Change) (s : Store) (m : ℕ) (e : ℕ → Entry) → ((c : Counter) (b : ℕ) → overruns d (counter c s b) (gain m e c b) ≡ false) → someOverrun d s m e ≡ false
@@ -81,9 +87,9 @@ none-overruns d s m e one =
     any-avoids (λ k. someCounter (λ c. overruns d (counter c s (base s + k)) (gain m e c (base s + k)))) (blocks s) (λ k l. rw (one writable _, one executable _, one linked _) refl)
 
 -- and none does where the entries give nothing
-nothing-gained : (d : Change) (s : Store) (m : ℕ) (e : ℕ → Entry) → ((c : Counter) (k b : ℕ) → k < m → gives c (e k) b ≡ false) → someOverrun d s m e ≡ false
+pub nothing-gained : (d : Change) (s : Store) (m : ℕ) (e : ℕ → Entry) → ((c : Counter) (k b : ℕ) → k < m → gives c (e k) b ≡ false) → someOverrun d s m e ≡ false
 unfolding overruns
-nothing-gained d s m e none = none-overruns d s m e (λ c b. rw (gain-none m e c b (λ k l. none c k b l)) refl)
+nothing-gained d s m e idle = none-overruns d s m e (λ c b. rw (gain-none m e c b (λ k l. idle c k b l)) refl)
 
 -- rights 0 and 1 are lawful, and neither write nor execute
 reads-only : (r : ℕ) → r ≤ 1 → (unlawfulRights r ≡ false) × (allows r write ≡ false) × (allows r execute ≡ false)
@@ -92,32 +98,36 @@ reads-only zero l = (refl, refl, refl)
 reads-only (suc zero) l = (refl, refl, refl)
 reads-only (suc (suc r)) l = let z : ⊥ = omega arith in absurd z
 
-reads-give-nothing : (f : Form) (t r : ℕ) → r ≤ 1 → (c : Counter) (k b : ℕ) → gives c (mapping f t r k) b ≡ false
+pub reads-give-nothing : (f : Form) (t r : ℕ) → r ≤ 1 → (c : Counter) (k b : ℕ) → gives c (mapping f t r k) b ≡ false
 unfolding gives
 reads-give-nothing f t r l writable k b = rw (mapping-grants t r k f .0, reads-only r l .1) refl
 reads-give-nothing f t r l executable k b = rw (mapping-grants t r k f .1, reads-only r l .2) refl
 reads-give-nothing f t r l linked k b = rw (mapping-grants t r k f .2) refl
 
-takes-fault : (f : Form) → takes f fault ≡ true
-unfolding takes isFault
-takes-fault sections = refl
-takes-fault pages = refl
-
 -- What they answer at an index in the table, and at one beyond it
 
 -- the index is a multiple of the words of a mapping
 module _ (f : Form) {s : Store} {p : ℕ} (i : ℕ) (whole : i % mappingWords f ≡ 0) where
+  -- where a map finds faults, what follows 8 in its list decides
+  pub map-from-9 : (golden : List ℕ) (t r : ℕ) {k : ℕ} → Vacant f s p i → i < tableEntries (level f) → misfitImage golden ≡ false → t % targetBlocks f ≡ 0
+      → Decides (drop 10 (mapRefusals f golden s p i t r)) k → mapOutcome f golden s p i t r .answer ≡ k
+  unfolding mapOutcome
+  map-from-9 golden t r room l image target-aligned d =
+      let table = room .ready in
+      let at = table .placed in
+      settle-answer _ _ _
+      ∙ decides (past (at .fits) (past image (past (in-region at) (past (at-multiple at) (past (same _ _ target-aligned) (past (same _ _ whole) (past (lt-leb (tableEntries (level f)) i l)
+      (past (right-types table) (past (no-executable table) (past (unoccupied room) d))))))))))
+
   -- rights 0 or 1 are granted wherever table, holder, entry and target are right
   pub map-accepted : {golden : List ℕ} {t r : ℕ} → Vacant f s p i → i < tableEntries (level f) → ReadTarget f golden s t r → mapOutcome f golden s p i t r .answer ≡ 0
-  unfolding mapOutcome unfitTarget clashingTarget unsignedTarget
+  unfolding unfitTarget clashingTarget unsignedTarget
   map-accepted {golden} {t} {r} room l target =
-      let at = room .placed in
       let (lawful, no-write, no-execute) = reads-only r (target .reads) in
-      settle-answer _ _ _
-      ∙ accepted (step (at .fits) (step (target .image) (step (in-region at) (step (at-multiple at) (step (same _ _ (target .aligned)) (step (same _ _ whole) (step (lt-leb (tableEntries (level f)) i l)
-      (step (right-types room) (step (no-executable room) (step (unoccupied room) (step lawful
-      (step (rw (inside (base s) (blocks s) t (targetBlocks f) (target .low) (target .high), no-write, no-execute) refl)
-      (step (rw (no-write, no-execute) refl) (step (rw no-execute refl) (step (nothing-gained added s _ _ (λ c k b _. reads-give-nothing f t r (target .reads) c k b)) done)))))))))))))))
+      map-from-9 golden t r room l (target .image) (target .aligned)
+      (past lawful
+      (past (rw (inside (base s) (blocks s) t (targetBlocks f) (target .low) (target .high), no-write, no-execute) refl)
+      (past (rw (no-write, no-execute) refl) (past (rw no-execute refl) (past (nothing-gained added s _ _ (λ c k b _. reads-give-nothing f t r (target .reads) c k b)) none)))))
 
   pub map-beyond : (golden : List ℕ) (t r : ℕ) → TablePlace (level f) s p → misfitImage golden ≡ false → t % targetBlocks f ≡ 0 → tableEntries (level f) ≤ i
       → mapOutcome f golden s p i t r .answer ≡ 4
@@ -125,20 +135,38 @@ module _ (f : Form) {s : Store} {p : ℕ} (i : ℕ) (whole : i % mappingWords f 
   map-beyond golden t r at image target-aligned h =
       settle-answer _ _ _ ∙ decides (past (at .fits) (past image (past (in-region at) (past (at-multiple at) (past (same _ _ target-aligned) (past (same _ _ whole) (here (le-leb (tableEntries (level f)) i h))))))))
 
-  pub unmap-fault-accepted : Vacant f s p i → i < tableEntries (level f) → unmapOutcome f s p i .answer ≡ 0
-  unfolding unmapOutcome astray placeBlocks
-  unmap-fault-accepted room l =
-      let at = room .placed in
-      settle-answer _ _ _ ∙ accepted (step (at .fits) (step (in-region at) (step (at-multiple at) (step (same _ _ whole) (step (lt-leb (tableEntries (level f)) i l)
-      (step (right-types room) (step (no-executable room)
-      (step (any-avoids (λ k. not (takes f (tableEntry (level f) s p (i + k)))) (mappingWords f) (λ k m. rw (room .empty k m) (ap not (takes-fault f))))
-      (step (any-avoids (λ k. astray (base s) (blocks s) (tableEntry (level f) s p (i + k))) (mappingWords f) (λ k m. rw (room .empty k m) refl))
-      (step (nothing-gained removed s (mappingWords f) (λ k. tableEntry (level f) s p (i + k)) (λ c k b m. rw (room .empty k m) (gives-fault c b))) done))))))))))
+  -- where the table is ready, what follows 7 in the list of unmap decides
+  pub unmap-from-8 : {k : ℕ} → Ready (level f) s p i → i < tableEntries (level f) → Decides (drop 7 (unmapRefusals f s p i)) k → unmapOutcome f s p i .answer ≡ k
+  unfolding unmapOutcome
+  unmap-from-8 table l d =
+      let at = table .placed in
+      settle-answer _ _ _ ∙ decides (past (at .fits) (past (in-region at) (past (at-multiple at) (past (same _ _ whole) (past (lt-leb (tableEntries (level f)) i l)
+      (past (right-types table) (past (no-executable table) d)))))))
+
+  -- where the form's unmap takes faults, one of them is taken away
+  pub unmap-fault-accepted : takes f fault ≡ true → Vacant f s p i → i < tableEntries (level f) → unmapOutcome f s p i .answer ≡ 0
+  unfolding astray placeBlocks
+  unmap-fault-accepted taken room l =
+      unmap-from-8 (room .ready) l
+      (past (any-avoids (λ k. not (takes f (tableEntry (level f) s p (i + k)))) (mappingWords f) (λ k m. rw (room .empty k m) (ap not taken)))
+      (past (any-avoids (λ k. astray (base s) (blocks s) (tableEntry (level f) s p (i + k))) (mappingWords f) (λ k m. rw (room .empty k m) refl))
+      (past (nothing-gained removed s (mappingWords f) (λ k. tableEntry (level f) s p (i + k)) (λ c k b m. rw (room .empty k m) (gives-fault c b))) none)))
 
   pub unmap-beyond : TablePlace (level f) s p → tableEntries (level f) ≤ i → unmapOutcome f s p i .answer ≡ 4
   unfolding unmapOutcome
   unmap-beyond at h =
       settle-answer _ _ _ ∙ decides (past (at .fits) (past (in-region at) (past (at-multiple at) (past (same _ _ whole) (here (le-leb (tableEntries (level f)) i h))))))
+
+-- the index is no multiple of the words of a mapping
+module _ (f : Form) {s : Store} {p : ℕ} (i : ℕ) (broken : i % mappingWords f ≢ 0) where
+  pub map-misaligned : (golden : List ℕ) (t r : ℕ) → TablePlace (level f) s p → misfitImage golden ≡ false → t % targetBlocks f ≡ 0 → mapOutcome f golden s p i t r .answer ≡ 3
+  unfolding mapOutcome
+  map-misaligned golden t r at image target-aligned =
+      settle-answer _ _ _ ∙ decides (past (at .fits) (past image (past (in-region at) (past (at-multiple at) (past (same _ _ target-aligned) (here (differ _ _ broken)))))))
+
+  pub unmap-misaligned : TablePlace (level f) s p → unmapOutcome f s p i .answer ≡ 3
+  unfolding unmapOutcome
+  unmap-misaligned at = settle-answer _ _ _ ∙ decides (past (at .fits) (past (in-region at) (past (at-multiple at) (here (differ _ _ broken)))))
 
 -- a link counts on its target alone, which has room
 link-counts : (s : Store) (t j : ℕ) → LinkTarget s t j → (c : Counter) (b : ℕ) → overruns added (counter c s b) (gain 1 (λ k. linkTo t j) c b) ≡ false
@@ -159,9 +187,10 @@ link-counts s t j target c b =
 pub link-accepted : {s : Store} {p i t j : ℕ} → Vacant sections s p i → i < tableEntries l1 → LinkTarget s t j → linkOutcome s p i t j .answer ≡ 0
 unfolding linkOutcome
 link-accepted {s} {p} {i} {t} {j} room l target =
-    let at = room .placed in
+    let table = room .ready in
+    let at = table .placed in
     settle-answer _ _ _ ∙ accepted (step (at .fits) (step (in-region at) (step (at-multiple at) (step (lt-leb (tableEntries l1) i l) (step (lt-leb blockTables j (target .table))
-    (step (right-types room) (step (no-executable room) (step (unoccupied room)
+    (step (right-types table) (step (no-executable table) (step (unoccupied room)
     (step (inside (base s) (blocks s) t (tableBlocks l2) (target .low) (omega (arith, target .high)))
     (step (same _ _ (target .type)) (step (none-overruns added s 1 (λ k. linkTo t j) (link-counts s t j target)) done)))))))))))
 

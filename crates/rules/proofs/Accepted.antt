@@ -9,20 +9,20 @@ use native.Mathlib.Omega.{arith}
 use lib.ListN.{length}
 use borrow.Author.Tests.{leb-false}
 use Rattle.words.specs.Words.{bits, word}
-use Rattle.entries.specs.Entries.{Entry, link, section, page, Level, l1, l2, entryAt, isFault, isUnaccepted, rights, placeFirst, coverFirst, placeBlocks, coverBlocks, blockTables}
+use Rattle.entries.specs.Entries.{Entry, link, section, page, large, Level, l1, l2, runWords, entryAt, isFault, isUnaccepted, rights, placeFirst, coverFirst, placeBlocks, coverBlocks, blockTables}
 use Rattle.entries.specs.Written.{wordOf, cacheable}
 use Rattle.entries.proofs.RoundTrip.{Encodable}
 use Rattle.rules.specs.Refusals.{answerOf}
 use Rattle.rules.specs.Outcomes.{leaving}
 use Rattle.rules.specs.Store.{blockBytes, blockWords, Store, blocks, base, outside}
-use Rattle.rules.specs.Tables.{tableBlocks, tableEntries, Form, sections, pages, level, targetBlocks, mappingWords, mapping, wordIndex, astray, l2Words}
+use Rattle.rules.specs.Tables.{tableBlocks, tableEntries, Form, sections, pages, larges, level, targetBlocks, mappingWords, mapping, wordIndex, astray, l2Words}
 use Rattle.rules.specs.General.{tableOutside, beyondTable, entered}
 use Rattle.rules.specs.Map.{mapRefusals, mapOutcome}
 use Rattle.rules.specs.Link.{linkTo, linkRefusals, linkOutcome}
 use Rattle.rules.specs.Guest.{Walk, ends, passes, endsAt, secondEntry, follow, walk}
 use Rattle.rules.proofs.Refusals.{passed, passed-front}
 use Rattle.rules.proofs.Memory.{length-fill, entryAt-fill, word-fill-other}
-use Rattle.rules.proofs.State.{Fit, within, settle-accepted}
+use Rattle.rules.proofs.State.{Fit, equal, within, settle-accepted}
 use Rattle.rules.proofs.Edits.{words-in-block}
 use Rattle.rules.proofs.Linking.{Linkable, linkable, link-written}
 use Rattle.rules.proofs.Mapping.{Mappable, mappable, target-inside}
@@ -33,7 +33,7 @@ pub record Entered (v : Level) (s after : Store) (p i m : ℕ) (x : ℕ → Entr
   pub others : (j : ℕ) → (wordIndex s p i ≤ j → wordIndex s p i + m ≤ j) → word (after .memory) (4 * j) ≡ word (s .memory) (4 * j)
   pub same-length : length (after .memory) ≡ length (s .memory)
 
-writes-entries : (v : Level) (s : Store) (p i m : ℕ) (x : ℕ → Entry) → ((k : ℕ) → k < m → Encodable v (x k)) → i % blockWords + m ≤ blockWords → Fit (base s) (blocks s) s → tableOutside v s p ≡ false → beyondTable v i ≡ false
+writes-entries : (v : Level) (s : Store) (p i m : ℕ) (x : ℕ → Entry) → Encodable v (wordIndex s p i) m x → i % blockWords + m ≤ blockWords → Fit (base s) (blocks s) s → tableOutside v s p ≡ false → beyondTable v i ≡ false
     → Entered v s (entered s p i m x) p i m x
 writes-entries v s p i m x written whole fit t2 t4 =
     let a = wordIndex s p i in
@@ -66,6 +66,16 @@ walk-link B n mem table addr p j through small inside =
     let at : l2Words * (q - blockTables * B) + bits addr 12 8 ≡ blockWords * (p - B) + (l2Words * j + bits addr 12 8) = omega arith in
     rw through (passes-on l1 B n (link q) (passes l2 B n e (endsAt l2 addr e)) refl (rw is inside) refl ∙ ap (passesEnd B n mem addr) at)
 
+-- and ends in the block of its entry i, if that covers one block
+walk-entry : (B n : ℕ) (mem : List ℕ) (table addr p i : ℕ) (e : Entry) → entryAt l1 mem (blockWords * (table - B) + bits addr 20 12) ≡ linkTo p (i / l2Words) → bits addr 12 8 ≡ i % l2Words
+    → i < tableEntries l2 → outside B n p (tableBlocks l2) ≡ false → entryAt l2 mem (blockWords * (p - B) + i) ≡ e
+    → isUnaccepted e ≡ false → astray B n e ≡ false → isFault e ≡ false → coverBlocks e ≡ 1 → walk B n mem table addr ≡ ends l2 (coverFirst e) (rights e)
+walk-entry B n mem table addr p i e through at small inside is accepted near no-fault one =
+    let index : blockWords * (p - B) + (l2Words * (i / l2Words) + bits addr 12 8) ≡ blockWords * (p - B) + i = omega arith in
+    walk-link B n mem table addr p (i / l2Words) through (omega arith) inside
+    ∙ ap (passesEnd B n mem addr) index
+    ∙ rw is (passes-on l2 B n e (endsAt l2 addr e) accepted near no-fault ∙ rw (one, mod-one (addr / blockBytes), add-zero (coverFirst e)) refl)
+
 -- Map
 
 module _ (f : Form) (golden : List ℕ) (s : Store) (p i t r : ℕ) (accepted : mapOutcome f golden s p i t r .answer ≡ 0) where
@@ -79,7 +89,7 @@ module _ (f : Form) (golden : List ℕ) (s : Store) (p i t r : ℕ) (accepted : 
   pub map-enters : Entered (level f) s (mapOutcome f golden s p i t r .after) p i (mappingWords f) (mapping f t r)
   map-enters =
       let (can, after-is) = settled in
-      rw after-is (writes-entries (level f) s p i (mappingWords f) (mapping f t r) (λ k l. can .written k) (words-in-block f i (can .aligned)) (can .region) (can .table-inside) (can .index-inside))
+      rw after-is (writes-entries (level f) s p i (mappingWords f) (mapping f t r) (can .written) (words-in-block f i (can .aligned)) (can .region) (can .table-inside) (can .index-inside))
 
 -- a walk to the section that was mapped
 pub section-grants : (golden : List ℕ) (s : Store) (p i t r : ℕ) (accepted : mapOutcome sections golden s p i t r .answer ≡ 0) (addr : ℕ) → bits addr 20 12 ≡ i
@@ -89,23 +99,33 @@ section-grants golden s p i t r accepted addr at =
     let can = settled sections golden s p i t r accepted .0 in
     let is = rw add-zero at (map-enters sections golden s p i t r accepted .decodes 0 (omega arith)) in
     let after = mapOutcome sections golden s p i t r .after .memory in
-    rw (at, is) (passes-on l1 (base s) (blocks s) (section t r) (endsAt l1 addr (section t r)) refl (target-inside sections golden s p i t r (can .fits-target) 0) refl)
+    rw (at, is) (passes-on l1 (base s) (blocks s) (section t r) (endsAt l1 addr (section t r)) refl (target-inside sections golden s p i t r (can .fits-target) (can .target-aligned) 0 (omega arith)) refl)
 
 -- a walk, through a link to its table, to the page that was mapped
 pub page-grants : (golden : List ℕ) (s : Store) (p i t r : ℕ) (accepted : mapOutcome pages golden s p i t r .answer ≡ 0) (table addr : ℕ)
     → entryAt l1 (mapOutcome pages golden s p i t r .after .memory) (wordIndex s table (bits addr 20 12)) ≡ linkTo p (i / l2Words) → bits addr 12 8 ≡ i % l2Words
     → walk (base s) (blocks s) (mapOutcome pages golden s p i t r .after .memory) table addr ≡ ends l2 t r
-unfolding isUnaccepted isFault coverFirst placeFirst coverBlocks placeBlocks rights
+unfolding isUnaccepted isFault coverFirst coverBlocks rights
 page-grants golden s p i t r accepted table addr through at =
     let (can, _) = settled pages golden s p i t r accepted in
-    let B = base s in
-    let n = blocks s in
-    let mem = mapOutcome pages golden s p i t r .after .memory in
     let small = leb-false (tableEntries l2) i (can .index-inside) in
-    let index : blockWords * (p - B) + (l2Words * (i / l2Words) + bits addr 12 8) ≡ wordIndex s p i = omega arith in
-    let is : entryAt l2 mem (blockWords * (p - B) + (l2Words * (i / l2Words) + bits addr 12 8)) ≡ page t r = ap (entryAt l2 mem) index ∙ rw add-zero at (map-enters pages golden s p i t r accepted .decodes 0 (omega arith)) in
-    walk-link B n mem table addr p (i / l2Words) through (omega arith) (can .table-inside)
-    ∙ rw is (passes-on l2 B n (page t r) (endsAt l2 addr (page t r)) refl (target-inside pages golden s p i t r (can .fits-target) 0) refl ∙ rw (mod-one (addr / blockBytes), add-zero t) refl)
+    let is = rw add-zero at (map-enters pages golden s p i t r accepted .decodes 0 (omega arith)) in
+    walk-entry (base s) (blocks s) _ table addr p i (page t r) through at (omega arith) (can .table-inside) is
+    refl (target-inside pages golden s p i t r (can .fits-target) (can .target-aligned) 0 (omega arith)) refl refl
+
+-- a walk, through a link to the table of its word k, to block k of the large page that was mapped
+pub large-grants : (golden : List ℕ) (s : Store) (p i t r : ℕ) (accepted : mapOutcome larges golden s p i t r .answer ≡ 0) (k : ℕ) → k < runWords → (table addr : ℕ)
+    → entryAt l1 (mapOutcome larges golden s p i t r .after .memory) (wordIndex s table (bits addr 20 12)) ≡ linkTo p ((i + k) / l2Words) → bits addr 12 8 ≡ (i + k) % l2Words
+    → walk (base s) (blocks s) (mapOutcome larges golden s p i t r .after .memory) table addr ≡ ends l2 (t + k) r
+unfolding isUnaccepted isFault coverFirst coverBlocks rights
+large-grants golden s p i t r accepted k l table addr through at =
+    let (can, _) = settled larges golden s p i t r accepted in
+    let small = leb-false (tableEntries l2) i (can .index-inside) in
+    let multiple = equal (i % mappingWords larges) 0 (can .aligned) in
+    let index : wordIndex s p i + k ≡ wordIndex s p (i + k) = omega arith in
+    let is = rw index at (map-enters larges golden s p i t r accepted .decodes k l) in
+    walk-entry (base s) (blocks s) _ table addr p (i + k) (large (t + k) r) through at (omega arith) (can .table-inside) is
+    refl (target-inside larges golden s p i t r (can .fits-target) (can .target-aligned) k l) refl refl
 
 -- Link
 
@@ -120,7 +140,7 @@ module _ (s : Store) (p i t j : ℕ) (accepted : linkOutcome s p i t j .answer �
   pub link-enters : Entered l1 s (linkOutcome s p i t j .after) p i 1 (λ k. linkTo t j)
   link-enters =
       let (can, after-is) = linked in
-      rw after-is (writes-entries l1 s p i 1 (λ k. linkTo t j) (λ k l. link-written can) (omega arith) (can .region) (can .table-inside) (can .index-inside))
+      rw after-is (writes-entries l1 s p i 1 (λ k. linkTo t j) (link-written (wordIndex s p i) can) (omega arith) (can .region) (can .table-inside) (can .index-inside))
 
   -- a walk through the link grants what the entry of the L2 table grants that the address names
   pub link-leads : (addr : ℕ) → bits addr 20 12 ≡ i

@@ -9,7 +9,7 @@ use native.Mathlib.Omega.{arith}
 use lib.Dec.{leb}
 use borrow.Author.Tests.{leb-true}
 use Rattle.words.proofs.Bounded.{and-true}
-use Rattle.entries.specs.Entries.{Entry, fault, unaccepted, link, section, page, Level, isFault, isUnaccepted}
+use Rattle.entries.specs.Entries.{Entry, fault, unaccepted, link, section, page, large, Level, isFault, isUnaccepted}
 use Rattle.rules.specs.Refusals.{Refusal, _if_, answerOf}
 use Rattle.rules.specs.Store.{Store}
 use Rattle.rules.specs.Outcomes.{Accepted, settle}
@@ -135,6 +135,7 @@ follow-numbered B n memory addr unaccepted = at-end
 follow-numbered B n memory addr (link place) = passes-numbered _ B n _ _ at-end
 follow-numbered B n memory addr (section b r) = at-end
 follow-numbered B n memory addr (page b r) = at-end
+follow-numbered B n memory addr (large b r) = at-end
 
 pub walk-numbered : (B n : ℕ) (memory : List ℕ) (table addr : ℕ) → Numbered (walk B n memory table addr)
 unfolding walk

@@ -17,7 +17,7 @@ use Rattle.words.proofs.Lists.{length-tabulate}
 use Rattle.signature.specs.Sha256.{digestByte, hash, sha256}
 use Rattle.signature.specs.Signed.{digestBytes, agrees, listed, signed}
 use Rattle.signature.specs.Signed.{misfitImage}
-use Rattle.entries.specs.Entries.{Entry, fault, Level, l1, l2, entryAt, l1Entry, l2Entry, isUnaccepted, isLink, rights, placeBlocks, coverBlocks}
+use Rattle.entries.specs.Entries.{Entry, fault, Level, l1, l2, entryAt, l1Entry, l2Entry, isUnaccepted, isLink, rights, placeBlocks, coverBlocks, isLarge}
 use Rattle.entries.specs.Rights.{allows}
 use Rattle.entries.proofs.RoundTrip.{readWrite}
 use Rattle.rules.specs.Refusals.{answerOf}
@@ -170,7 +170,7 @@ abbrev withL2 : ℕ → ℕ
 withL2 = typed (λ b. typeD) 0 (tableBlocks l2) (typeCode l2)
 
 tabled-alone : {s : Store} → Zeros withL2 s → Alone 0 (toldOf withL2 none) s 0 0 5 fault
-unfolding typed num
+unfolding typed num isLarge
 tabled-alone z =
     let n = eight z in
     record {
@@ -184,6 +184,7 @@ tabled-alone z =
       signs = rw (z .zeros) page-signed;
       holds = blank z l2 0;
       only = rw (gives-fault writable 5, gives-fault executable 5, uncounted z writable 5 (omega arith), uncounted z executable 5 (omega arith)) refl;
+      not-large = refl;
       holder-unexecuted = uncounted z executable 0 (omega arith);
     }
 

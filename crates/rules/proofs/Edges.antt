@@ -2,26 +2,28 @@
 -- number, since it passes the tests before that one.
 use mathlib.Core.Bool.{false}
 use mathlib.Core.List.{List, []}
-use mathlib.Core.Path.{_≡_, refl}
-use Prim.Native.Nat.{ℕ, zero, suc, _+_, _-_, _*_, _%_, _<_, _≤_}
+use mathlib.Core.Path.{_≡_, refl, _∙_}
+use Prim.Native.Nat.{ℕ, zero, suc, _+_, _-_, _*_, _/_, _%_, _<_, _≤_}
 use native.Mathlib.Nat.{mod-one}
 use native.Mathlib.Omega.{arith}
-use lib.ListN.{length, replicate}
+use lib.ListN.{length, replicate, length-replicate}
 use borrow.Author.Tests.{lt-ltb, le-ltb}
 use Rattle.words.specs.Words.{word, putWord}
 use Rattle.words.proofs.Bounded.{same}
 use Rattle.signature.specs.Signed.{misfitImage}
-use Rattle.entries.specs.Entries.{fault, l1, l2, entryAt, l1Entry, l2Entry}
+use Rattle.entries.specs.Entries.{Level, l1, l2, isFault}
 use Rattle.rules.specs.Refusals.{answerOf}
-use Rattle.rules.specs.Store.{blockBytes, leastBlocks, mostBlocks, ledgerHeadBytes, ledgerRecordBytes, baseAlignment, physicalBlocks, Store, blocks, base, typeOf, recordWord, putRecordWord, retype, typeWord, misfit}
+use Rattle.rules.specs.Store.{blockBytes, leastBlocks, mostBlocks, ledgerHeadBytes, ledgerRecordBytes, baseAlignment, physicalBlocks, Store, blocks, base, typeOf, counter, recordWord, putRecordWord, retype, typeWord, executable, misfit}
 use Rattle.rules.specs.Outcomes.{settle}
-use Rattle.rules.specs.Tables.{typeCode, sections, pages}
+use Rattle.rules.specs.Tables.{typeCode, tableBlocks, sections, pages, larges, takes}
+use Rattle.rules.specs.General.{holder}
 use Rattle.rules.specs.Begin.{beginOutcome}
 use Rattle.rules.specs.Map.{mapOutcome}
 use Rattle.rules.specs.Link.{linkOutcome}
 use Rattle.rules.specs.Unmap.{unmapOutcome}
-use Rattle.rules.proofs.Acceptance.{TablePlace, Vacant, ReadTarget, LinkTarget, map-accepted, map-beyond, link-accepted, link-beyond, unmap-fault-accepted, unmap-beyond}
-use Rattle.rules.proofs.SmallStores.{zeros, length-zeros}
+use Rattle.rules.proofs.Ledger.{length-putRecordWord, length-retype}
+use Rattle.rules.proofs.Acceptance.{TablePlace, Ready, Vacant, ReadTarget, LinkTarget, map-accepted, map-beyond, map-misaligned, link-accepted, link-beyond, unmap-fault-accepted, unmap-beyond, unmap-misaligned}
+use Rattle.rules.proofs.SmallStores.{zeros, length-zeros, zero-entry}
 
 -- a memory of n blocks with its ledger, at a B that fits
 pub record Sized (n B : ℕ) (s : Store) : Type 0 where
@@ -86,7 +88,8 @@ pub link-4096 : {s : Store} {p : ℕ} (t j : ℕ) → TablePlace l1 s p → link
 link-4096 t j at = link-beyond 4096 t j at (omega arith)
 
 pub unmap-4095 : {s : Store} {p : ℕ} → Vacant sections s p 4095 → unmapOutcome sections s p 4095 .answer ≡ 0
-unmap-4095 room = unmap-fault-accepted sections 4095 refl room (omega arith)
+unfolding takes isFault
+unmap-4095 room = unmap-fault-accepted sections 4095 refl refl room (omega arith)
 
 pub unmap-4096 : {s : Store} {p : ℕ} → TablePlace l1 s p → unmapOutcome sections s p 4096 .answer ≡ 4
 unmap-4096 at = unmap-beyond sections 4096 refl at (omega arith)
@@ -99,10 +102,35 @@ pub map-1024 : (golden : List ℕ) {s : Store} {p : ℕ} (t r : ℕ) → TablePl
 map-1024 golden t r at image = map-beyond pages 1024 refl golden t r at image (mod-one t) (omega arith)
 
 pub unmap-1023 : {s : Store} {p : ℕ} → Vacant pages s p 1023 → unmapOutcome pages s p 1023 .answer ≡ 0
-unmap-1023 room = unmap-fault-accepted pages 1023 refl room (omega arith)
+unfolding takes isFault
+unmap-1023 room = unmap-fault-accepted pages 1023 refl refl room (omega arith)
 
 pub unmap-1024 : {s : Store} {p : ℕ} → TablePlace l2 s p → unmapOutcome pages s p 1024 .answer ≡ 4
 unmap-1024 at = unmap-beyond pages 1024 refl at (omega arith)
+
+-- edges 2: for a large page index 1,008 is taken; 1,009 to 1,023 are answered with 3, 1,024 with 4, and 1,025 with 3
+pub map-large-1008 : {golden : List ℕ} {s : Store} {p t r : ℕ} → Vacant larges s p 1008 → ReadTarget larges golden s t r → mapOutcome larges golden s p 1008 t r .answer ≡ 0
+map-large-1008 room target = map-accepted larges 1008 refl room (omega arith) target
+
+module _ {s : Store} {p : ℕ} (at : TablePlace l2 s p) where
+  module _ (golden : List ℕ) (t r : ℕ) (image : misfitImage golden ≡ false) (aligned : t % 16 ≡ 0) where
+    pub map-large-1009 : (i : ℕ) → 1009 ≤ i → i ≤ 1023 → mapOutcome larges golden s p i t r .answer ≡ 3
+    map-large-1009 i low high = map-misaligned larges i (λ e. omega arith) golden t r at image aligned
+
+    pub map-large-1024 : mapOutcome larges golden s p 1024 t r .answer ≡ 4
+    map-large-1024 = map-beyond larges 1024 refl golden t r at image aligned (omega arith)
+
+    pub map-large-1025 : mapOutcome larges golden s p 1025 t r .answer ≡ 3
+    map-large-1025 = map-misaligned larges 1025 (λ e. omega arith) golden t r at image aligned
+
+  pub unmap-large-1009 : (i : ℕ) → 1009 ≤ i → i ≤ 1023 → unmapOutcome larges s p i .answer ≡ 3
+  unmap-large-1009 i low high = unmap-misaligned larges i (λ e. omega arith) at
+
+  pub unmap-large-1024 : unmapOutcome larges s p 1024 .answer ≡ 4
+  unmap-large-1024 = unmap-beyond larges 1024 refl at (omega arith)
+
+  pub unmap-large-1025 : unmapOutcome larges s p 1025 .answer ≡ 3
+  unmap-large-1025 = unmap-misaligned larges 1025 (λ e. omega arith) at
 
 -- edges 3: a section that ends where the region ends is taken
 pub last-section : (golden : List ℕ) {s : Store} {p i : ℕ} (r : ℕ) → Vacant sections s p i → i < 4096 → misfitImage golden ≡ false → 256 ≤ blocks s → (base s + blocks s - 256) % 256 ≡ 0 → r ≤ 1
@@ -110,57 +138,75 @@ pub last-section : (golden : List ℕ) {s : Store} {p i : ℕ} (r : ℕ) → Vac
 last-section golden {s} {p} {i} r room l image wide aligned reads =
     map-accepted sections i (mod-one i) room l (record { image = image; low = omega arith; high = omega arith; aligned = aligned; reads = reads })
 
+-- edges 3: and so is a large page
+pub last-large : (golden : List ℕ) {s : Store} {p i : ℕ} (r : ℕ) → Vacant larges s p i → i % 16 ≡ 0 → i < 1024 → misfitImage golden ≡ false → 16 ≤ blocks s → (base s + blocks s - 16) % 16 ≡ 0 → r ≤ 1
+    → mapOutcome larges golden s p i (base s + blocks s - 16) r .answer ≡ 0
+last-large golden {s} {p} {i} r room multiple l image wide aligned reads =
+    map-accepted larges i multiple room l (record { image = image; low = omega arith; high = omega arith; aligned = aligned; reads = reads })
+
 -- What edges 2 and 3 take can be had at once: in 256 blocks of zeros, where blocks 0 to 3 are an L1 table and block 4 is an L2 block
 
+abbrev pub blankLedger : List ℕ
+blankLedger = replicate (ledgerHeadBytes + ledgerRecordBytes * 256) 0
+
 abbrev pub wide : Store
-wide = record { memory = zeros (blockBytes * 256); ledger = putRecordWord (retype (replicate (ledgerHeadBytes + ledgerRecordBytes * 256) 0) 0 4 (typeCode l1)) typeWord 4 (typeCode l2) }
+wide = record { memory = zeros (blockBytes * 256); ledger = putRecordWord (retype blankLedger 0 4 (typeCode l1)) typeWord 4 (typeCode l2) }
 
--- the last entry of each
-faults : (entryAt l1 (wide .memory) 4095 ≡ fault) × (entryAt l2 (wide .memory) 5119 ≡ fault)
-unfolding zeros word entryAt l1Entry l2Entry
-faults = (refl, refl)
+-- a store of this size with B 0, and a table in it
+module _ (s : Store) (memory : length (s .memory) ≡ blockBytes * 256) (ledger : length (s .ledger) ≡ ledgerHeadBytes + ledgerRecordBytes * 256) (based : base s ≡ 0) where
+  pub wide-blocks : blocks s ≡ 256
+  wide-blocks = rw memory refl
 
-wide-blocks : blocks wide ≡ 256
-wide-blocks = rw (length-zeros (blockBytes * 256)) refl
+  wide-fits : misfit s (base s) ≡ false
+  unfolding misfit
+  wide-fits = rw (memory, ledger, based) refl
 
-wide-fits : misfit wide (base wide) ≡ false
-unfolding misfit word putWord putRecordWord retype
-wide-fits = rw (length-zeros (blockBytes * 256)) refl
+  pub wide-table : (v : Level) (p i : ℕ) → p + tableBlocks v ≤ 256 → p % tableBlocks v ≡ 0 → ((k : ℕ) → k < tableBlocks v → typeOf s (p + k) ≡ typeCode v)
+      → counter executable s (holder p i) ≡ 0 → Ready v s p i
+  wide-table v p i high aligned typed unexecuted =
+      record { placed = record { fits = wide-fits; low = omega arith; high = omega (arith, wide-blocks); aligned = aligned }; typed = typed; unexecuted = unexecuted }
 
-room-l1 : Vacant sections wide 0 4095
+pub length-wide : length (wide .ledger) ≡ ledgerHeadBytes + ledgerRecordBytes * 256
+length-wide =
+    length-putRecordWord (retype blankLedger 0 4 (typeCode l1)) typeWord 4 (typeCode l2) ∙ length-retype blankLedger 0 4 (typeCode l1) ∙ length-replicate {A = ℕ} (ledgerHeadBytes + ledgerRecordBytes * 256) 0
+
+pub wide-base : base wide ≡ 0
+unfolding word putWord putRecordWord retype
+wide-base = refl
+
+room-section : Vacant sections wide 0 4095
 unfolding word putWord recordWord putRecordWord retype
-room-l1 =
-    record {
-      placed = record { fits = wide-fits; low = omega arith; high = omega (arith, wide-blocks); aligned = refl };
-      typed = typed;
-      unexecuted = refl;
-      empty = λ k l. let z : k ≡ 0 = omega arith in rw z (faults .0);
-    } where
-      typed : (k : ℕ) → k < 4 → typeOf wide (0 + k) ≡ typeCode l1
-      typed zero l = refl
-      typed (suc zero) l = refl
-      typed (suc (suc zero)) l = refl
-      typed (suc (suc (suc zero))) l = refl
-      typed (suc (suc (suc (suc k)))) l = let z : ⊥ = omega arith in absurd z
+room-section = record { ready = wide-table wide (length-zeros (blockBytes * 256)) length-wide wide-base l1 0 4095 (omega arith) refl typed refl; empty = λ k l. zero-entry l1 (blockBytes * 256) _ } where
+  typed : (k : ℕ) → k < 4 → typeOf wide (0 + k) ≡ typeCode l1
+  typed zero l = refl
+  typed (suc zero) l = refl
+  typed (suc (suc zero)) l = refl
+  typed (suc (suc (suc zero))) l = refl
+  typed (suc (suc (suc (suc k)))) l = let z : ⊥ = omega arith in absurd z
 
-room-l2 : Vacant pages wide 4 1023
+-- block 4 as an L2 block
+ready-l2 : (i : ℕ) → i < 1024 → Ready l2 wide 4 i
 unfolding word putWord recordWord putRecordWord retype
-room-l2 =
-    record {
-      placed = record { fits = wide-fits; low = omega arith; high = omega (arith, wide-blocks); aligned = refl };
-      typed = λ k l. let z : k ≡ 0 = omega arith in rw z refl;
-      unexecuted = refl;
-      empty = λ k l. let z : k ≡ 0 = omega arith in rw z (faults .1);
-    }
+ready-l2 i l =
+    let one : i / 1024 ≡ 0 = omega arith in
+    wide-table wide (length-zeros (blockBytes * 256)) length-wide wide-base l2 4 i (omega arith) refl (λ k l. let z : k ≡ 0 = omega arith in rw z refl) (rw one refl)
+
+room-page : Vacant pages wide 4 1023
+room-page = record { ready = ready-l2 1023 (omega arith); empty = λ k l. zero-entry l2 (blockBytes * 256) _ }
+
+room-large : Vacant larges wide 4 1008
+room-large = record { ready = ready-l2 1008 (omega arith); empty = λ k l. zero-entry l2 (blockBytes * 256) _ }
 
 pub edges-taken : (mapOutcome sections [] wide 0 4095 (base wide + blocks wide - 256) 1 .answer ≡ 0) × (linkOutcome wide 0 4095 4 0 .answer ≡ 0) × (unmapOutcome sections wide 0 4095 .answer ≡ 0)
     × (mapOutcome pages [] wide 4 1023 255 1 .answer ≡ 0) × (unmapOutcome pages wide 4 1023 .answer ≡ 0)
+    × (mapOutcome larges [] wide 4 1008 (base wide + blocks wide - 16) 1 .answer ≡ 0)
 unfolding misfitImage word putWord recordWord putRecordWord retype
 edges-taken =
-    let n = wide-blocks in (
-      last-section [] 1 room-l1 (omega arith) refl (omega arith) (rw n refl) (omega arith),
-      link-4095 room-l1 (record { low = omega arith; high = omega arith; type = refl; room = omega arith; table = omega arith }),
-      unmap-4095 room-l1,
-      map-1023 room-l2 (record { image = refl; low = omega arith; high = omega arith; aligned = refl; reads = omega arith }),
-      unmap-1023 room-l2,
+    let n = wide-blocks wide (length-zeros (blockBytes * 256)) length-wide wide-base in (
+      last-section [] 1 room-section (omega arith) refl (omega arith) (rw n refl) (omega arith),
+      link-4095 room-section (record { low = omega arith; high = omega arith; type = refl; room = omega arith; table = omega arith }),
+      unmap-4095 room-section,
+      map-1023 room-page (record { image = refl; low = omega arith; high = omega arith; aligned = refl; reads = omega arith }),
+      unmap-1023 room-page,
+      last-large [] 1 room-large refl (omega arith) refl (omega arith) (rw n refl) (omega arith),
     )

@@ -2,25 +2,29 @@
 use mathlib.Core.Bool.{true, false, not, _&&_, _||_, and-false}
 use mathlib.Core.List.{List}
 use mathlib.Core.Logic.{_≢_, ⊎-elim}
-use mathlib.Core.Path.{_≡_, refl, _∙_, ap}
+use mathlib.Core.Path.{_≡_, refl, sym, _∙_, ap}
 use Prim.Native.Nat.{ℕ, _+_, _-_, _*_, _/_, _%_, _<_, _≤_}
 use native.Mathlib.Nat.{add-assoc}
+use native.Mathlib.Decide.{ℕ-discrete}
 use native.Mathlib.Omega.{arith}
 use borrow.Author.Tests.{le-ltb, ltb-false, leb-false, not-false}
 use Rattle.words.specs.Bounded.{above}
+use Rattle.words.specs.Words.{word}
 use Rattle.words.proofs.Bounded.{any-none, below-or-above}
-use Rattle.entries.specs.Entries.{Entry, fault, Level, entryAt, isFault}
+use Rattle.entries.specs.Entries.{Entry, fault, Level, entryAt, isFault, runWords}
 use Rattle.entries.specs.Written.{wordOf, cacheable}
+use Rattle.entries.proofs.Covers.{standsAlone}
+use Rattle.entries.proofs.Decoding.{Lone, lone-word}
 use Rattle.entries.proofs.RoundTrip.{Encodable}
 use Rattle.rules.specs.Store.{blockWords, Store, blocks, base, writable, executable, counter, fill}
-use Rattle.rules.specs.Tables.{typeCode, tableBlocks, tableEntries, Form, sections, pages, mappingWords, wordIndex, tableEntry, gain}
+use Rattle.rules.specs.Tables.{typeCode, tableBlocks, tableEntries, Form, sections, pages, larges, mappingWords, wordIndex, tableEntry, gain}
 use Rattle.rules.specs.General.{occupied, entered, tableOutside, misaligned, beyondTable, otherType, holder, executableHolder, Change, added, endValue, someOverrun, recounted}
 use Rattle.rules.specs.Create.{clash, clashes}
 use Rattle.rules.specs.Steps.{Told}
 use Rattle.rules.proofs.Gains.{fault-is}
 use Rattle.rules.proofs.Memory.{length-fill, entryAt-fill, entryAt-fill-other, contents-fill, signedBlock-same}
 use Rattle.rules.proofs.Consistent.{Sound, Replaces, windowBefore, windowAfter}
-use Rattle.rules.proofs.State.{typeAt, signedAt, recorded, entryOf, Running, within, types-told}
+use Rattle.rules.proofs.State.{typeAt, signedAt, recorded, entryOf, Running, equal, within, types-told}
 use Rattle.rules.proofs.Tables.{entryOf-table, typedEntry-same}
 use Rattle.rules.proofs.Changes.{Changes, counter-at, end, Leaves, adds, length-recounted, head-recounted, type-recounted, counter-recounted}
 
@@ -29,6 +33,7 @@ pub record Slot (h : Told) (s : Store) (v : Level) (p i m : ℕ) : Type 0 where
   pub low : base s ≤ p
   pub high : p + tableBlocks v ≤ base s + blocks s
   pub typed : (k : ℕ) → k < tableBlocks v → h .types (p + k) ≡ typeCode v
+  pub index : i < tableEntries v
   pub in-table : i + m ≤ tableEntries v
   pub in-holder : i % blockWords + m ≤ blockWords
   pub unexecuted : recorded s executable (holder p i - base s) ≡ 0
@@ -37,6 +42,12 @@ pub record Slot (h : Told) (s : Store) (v : Level) (p i m : ℕ) : Type 0 where
 pub words-in-block : (f : Form) (i : ℕ) → misaligned i (mappingWords f) ≡ false → i % blockWords + mappingWords f ≤ blockWords
 words-in-block sections i t = omega arith
 words-in-block pages i t = omega arith
+words-in-block larges i t = let multiple = equal (i % runWords) 0 t in omega arith
+
+-- entries outside a window keep their meaning: it is an aligned run, or its entries stand by themselves, before and after
+pub data Apart (j m : ℕ) (before after : ℕ → Entry) : Type 0 where
+  as-run : j % runWords ≡ 0 → m ≡ runWords → Apart j m before after
+  as-singles : ((k : ℕ) → k < m → (standsAlone (before k) ≡ true) × (standsAlone (after k) ≡ true)) → Apart j m before after
 
 module _ {h : Told} {s : Store} (r : Running h s) (v : Level) (p i m : ℕ) where
   pub slot : i % blockWords + m ≤ blockWords → tableOutside v s p ≡ false → beyondTable v i ≡ false → otherType v s p (typeCode v) ≡ false → executableHolder s p i ≡ false
@@ -49,6 +60,7 @@ module _ {h : Told} {s : Store} (r : Running h s) (v : Level) (p i m : ℕ) wher
         low = low;
         high = high;
         typed = types-told r v p (typeCode v) t2 t5;
+        index = i-small;
         in-table = omega arith;
         in-holder = whole;
         unexecuted = omega arith;
@@ -81,18 +93,45 @@ module _ {h : Told} {s : Store} (r : Running h s) (v : Level) (p i m : ℕ) wher
         let whole = sl .in-holder in
         entryOf-table (base s) h mem (wordIndex s p i + k) (holder p i) (omega arith) v (sl .typed (i / blockWords) (omega arith))
 
-    edit-replaces : ((k : ℕ) → k < m → Encodable v (windowAfter d e k)) → ((k : ℕ) → k < m → tableEntry v s p (i + k) ≡ windowBefore d e k)
-        → Replaces d (blockWords * blocks s) (wordIndex s p i) m e (entryOf (base s) h (s .memory)) (entryOf (base s) h (edited d e .memory))
-    edit-replaces written before =
-        let a = wordIndex s p i in
-        let mem = s .memory in
-        let f = r .fit .memory-length in
-        record {
-          within = omega arith;
-          before = λ k l. window-entry mem k l ∙ ap (entryAt v mem) (add-assoc (blockWords * (p - base s)) i k) ∙ before k l;
-          after = λ k l. window-entry (fill mem a m w) k l ∙ entryAt-fill v mem a cacheable (windowAfter d e) m written (omega arith) k l;
-          same = λ j l o. typedEntry-same (fill mem a m w) mem j (λ u. entryAt-fill-other mem a w u m j o) (h .types (base s + j / blockWords));
-        }
+    -- the entries that stood in the window and those that are written
+    module _ (written : Encodable v (wordIndex s p i) m (windowAfter d e)) (before : (k : ℕ) → k < m → tableEntry v s p (i + k) ≡ windowBefore d e k)
+        (apart : Apart (wordIndex s p i) m (windowBefore d e) (windowAfter d e)) where
+      stood : (k : ℕ) → k < m → entryAt v (s .memory) (wordIndex s p i + k) ≡ windowBefore d e k
+      stood k l = ap (entryAt v (s .memory)) (add-assoc (blockWords * (p - base s)) i k) ∙ before k l
+
+      stands : (k : ℕ) → k < m → entryAt v (edited d e .memory) (wordIndex s p i + k) ≡ windowAfter d e k
+      stands = let f = r .fit .memory-length in entryAt-fill v (s .memory) (wordIndex s p i) cacheable (windowAfter d e) m written (omega arith)
+
+      -- an entry outside, in a table of this level
+      beside : (j : ℕ) → (wordIndex s p i ≤ j → wordIndex s p i + m ≤ j) → entryAt v (edited d e .memory) j ≡ entryAt v (s .memory) j
+      beside j o = entryAt-fill-other (s .memory) (wordIndex s p i) w v m j o (lone apart) where
+        lone : Apart (wordIndex s p i) m (windowBefore d e) (windowAfter d e) → (k : ℕ) → k < m → (wordIndex s p i + k) / runWords ≡ j / runWords
+            → Lone v (word (s .memory) (4 * (wordIndex s p i + k))) × Lone v (word (edited d e .memory) (4 * (wordIndex s p i + k)))
+        lone (as-run aligned number) k l near = let z : ⊥ = omega (arith, o (omega arith)) in absurd z
+        lone (as-singles each) k l near = (
+          lone-word v (s .memory) (wordIndex s p i + k) (rw (stood k l) (each k l .0)),
+          lone-word v (edited d e .memory) (wordIndex s p i + k) (rw (stands k l) (each k l .1)),
+        )
+
+      -- an entry outside, of whatever type
+      outside-same : (j : ℕ) → (wordIndex s p i ≤ j → wordIndex s p i + m ≤ j) → entryOf (base s) h (edited d e .memory) j ≡ entryOf (base s) h (s .memory) j
+      outside-same j o = go (ℕ-discrete (j / blockWords) (wordIndex s p i / blockWords)) where
+        go : Dec (j / blockWords ≡ wordIndex s p i / blockWords) → entryOf (base s) h (edited d e .memory) j ≡ entryOf (base s) h (s .memory) j
+        go (yes q) =
+            let at : base s + j / blockWords ≡ holder p i = omega (arith, sl .low) in
+            let typed = sl .typed (i / blockWords) (omega (arith, sl .index)) in
+            entryOf-table (base s) h (edited d e .memory) j (holder p i) at v typed ∙ beside j o ∙ sym (entryOf-table (base s) h (s .memory) j (holder p i) at v typed)
+        go (no q) =
+            typedEntry-same (edited d e .memory) (s .memory) j (λ u. entryAt-fill-other (s .memory) (wordIndex s p i) w u m j o (λ k l near. absurd (q (omega (arith, sl .in-holder))))) (h .types (base s + j / blockWords))
+
+      edit-replaces : Replaces d (blockWords * blocks s) (wordIndex s p i) m e (entryOf (base s) h (s .memory)) (entryOf (base s) h (edited d e .memory))
+      edit-replaces =
+          record {
+            within = omega (arith, r .fit .memory-length, sl .low, sl .high, sl .in-table);
+            before = λ k l. window-entry (s .memory) k l ∙ stood k l;
+            after = λ k l. window-entry (edited d e .memory) k l ∙ stands k l;
+            same = λ j l o. outside-same j o;
+          }
 
     -- no block that can be executed afterwards has other contents
     edit-keeps : end d s m e executable (holder p i - base s) ≡ 0 → (b : ℕ) → b < blocks s → 0 < end d s m e executable b
@@ -104,10 +143,11 @@ module _ {h : Told} {s : Store} (r : Running h s) (v : Level) (p i m : ℕ) wher
         signedBlock-same (h .golden) (base s) (fill mem (wordIndex s p i) m w) mem b (contents-fill mem (wordIndex s p i) w m b (λ k. omega arith))
 
     -- the window was as it is before the change, and its holder can't be executed
-    pub edits : ((k : ℕ) → k < m → Encodable v (windowAfter d e k)) → ((k : ℕ) → k < m → tableEntry v s p (i + k) ≡ windowBefore d e k)
-        → end d s m e executable (holder p i - base s) ≡ 0 → Changes d (wordIndex s p i) m e h h s (edited d e)
-    edits written before none =
-        record { leaves = edit-leaves; replaces = edit-replaces written before; carry = λ c b l k suits. suits; keep = edit-keeps none }
+    pub edits : Encodable v (wordIndex s p i) m (windowAfter d e) → ((k : ℕ) → k < m → tableEntry v s p (i + k) ≡ windowBefore d e k)
+        → Apart (wordIndex s p i) m (windowBefore d e) (windowAfter d e) → end d s m e executable (holder p i - base s) ≡ 0
+        → Changes d (wordIndex s p i) m e h h s (edited d e)
+    edits written before apart none =
+        record { leaves = edit-leaves; replaces = edit-replaces written before apart; carry = λ c b l k suits. suits; keep = edit-keeps none }
 
 -- Entering entries
 
@@ -135,13 +175,13 @@ module _ {h : Told} {s : Store} (r : Running h s) (v : Level) (p i m : ℕ) (sl 
       rw (counter-at writable s b, counter-at executable s b) (no-clash _ _ _ _ (harmless .write-alone b l) (harmless .execute-alone b l))
 
   -- entries that suit their targets, written where faults were
-  pub enters : ((k : ℕ) → k < m → Encodable v (x k)) → occupied v s p i m ≡ false → ((k : ℕ) → k < m → Sound (base s) (blocks s) (typeAt (base s) h) (x k))
-      → (someOverrun added s m x ≡ false) × Running h (entered s p i m x)
+  pub enters : Encodable v (wordIndex s p i) m x → Apart (wordIndex s p i) m (λ k. fault) x → occupied v s p i m ≡ false
+      → ((k : ℕ) → k < m → Sound (base s) (blocks s) (typeAt (base s) h) (x k)) → (someOverrun added s m x ≡ false) × Running h (entered s p i m x)
   unfolding endValue
-  enters written free sound =
+  enters written apart free sound =
       let at : base s + (holder p i - base s) ≡ holder p i = (let whole = sl .in-holder in omega arith) in
       let was : (k : ℕ) → k < m → tableEntry v s p (i + k) ≡ fault = λ k l.
       fault-is (tableEntry v s p (i + k)) (not-false (isFault (tableEntry v s p (i + k))) (any-none (λ k. not (isFault (tableEntry v s p (i + k)))) m free k l)) in
       adds r
-      (edits r v p i m sl added x written was (rw at (omega (arith, sl .unexecuted, harmless .spares-holder))))
+      (edits r v p i m sl added x written was apart (rw at (omega (arith, sl .unexecuted, harmless .spares-holder))))
       (record { sound = sound; clear = clear; signs = harmless .signs })

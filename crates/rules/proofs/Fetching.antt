@@ -11,7 +11,7 @@ use lib.ListN.{getD, getElem?, take}
 use borrow.Author.Tests.{le-ltb}
 use Rattle.words.specs.Bounded.{num}
 use Rattle.words.proofs.Bounded.{any-avoids, same}
-use Rattle.entries.specs.Entries.{Entry, fault, page, l1, l2, entryAt, isFault, rights}
+use Rattle.entries.specs.Entries.{Entry, fault, page, l1, l2, entryAt, isFault, rights, isLarge}
 use Rattle.entries.specs.Written.{wordOf, cacheable}
 use Rattle.entries.specs.Rights.{allows}
 use Rattle.entries.proofs.Decoding.{entryAt-cong}
@@ -28,7 +28,7 @@ use Rattle.rules.specs.Policies.{FetchedCode}
 use Rattle.rules.proofs.Refusals.{Passed, done, step}
 use Rattle.rules.proofs.Gains.{gain-none}
 use Rattle.rules.proofs.Ledger.{typed-in, typed-out}
-use Rattle.rules.proofs.Memory.{length-fill, contents-fill, signedBlock-same, entryAt-fill-other}
+use Rattle.rules.proofs.Memory.{length-fill, contents-fill, signedBlock-same, word-fill-other}
 use Rattle.rules.proofs.State.{inside, recorded, type-told}
 use Rattle.rules.proofs.Changes.{end, counter-recounted}
 use Rattle.rules.proofs.Demand3.{demand3}
@@ -81,7 +81,7 @@ module _ {s : Store} (z : Zeros withBoth s) where
 
   -- and it stands outside blocks 4 and 5
   linked-alone : Alone 0 (toldOf withBoth none) linked 4 0 5 fault
-  unfolding typed gives grants allows rights num
+  unfolding typed gives grants allows rights num isLarge
   linked-alone =
       let a = wordIndex s 0 0 in
       let w : ℕ → ℕ = λ k. wordOf cacheable (linkTo 4 0) in
@@ -96,8 +96,9 @@ module _ {s : Store} (z : Zeros withBoth s) where
         high = omega arith;
         free = refl;
         signs = rw (link-taken .leaves) (signedBlock-same golden 0 (fill (s .memory) a 1 w) (s .memory) 5 (contents-fill (s .memory) a w 1 5 (λ k. omega arith)) ∙ rw (z .zeros) page-signed);
-        holds = rw (link-taken .leaves) (entryAt-fill-other (s .memory) a w l2 1 4096 (λ l. omega arith) ∙ blank z l2 4096);
+        holds = rw (link-taken .leaves) (entryAt-cong l2 (fill (s .memory) a 1 w) (s .memory) 4096 (λ k near. word-fill-other (s .memory) a w 1 k (λ l. omega arith)) ∙ blank z l2 4096);
         only = rw (linked-uncounted writable (λ q. refl) 5 (omega arith), linked-uncounted executable (λ q. refl) 5 (omega arith)) refl;
+        not-large = refl;
         holder-unexecuted = linked-uncounted executable (λ q. refl) 4 (omega arith);
       }
 

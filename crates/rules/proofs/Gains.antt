@@ -8,7 +8,7 @@ use borrow.Author.Tests.{lt-ltb}
 use Rattle.words.specs.Bounded.{above, any, sum, num}
 use Rattle.words.proofs.Bounded.{any-found, and-true, among-in, among-within}
 use Rattle.words.proofs.Sums.{sum-same, sum-cut, sum-window, count-most, count-hit, count-none, count-any}
-use Rattle.entries.specs.Entries.{Entry, fault, unaccepted, link, section, page, isFault, isLink, rights, placeBlocks, coverFirst, coverBlocks, covers}
+use Rattle.entries.specs.Entries.{Entry, fault, unaccepted, link, section, page, large, isFault, isLink, rights, placeBlocks, coverFirst, coverBlocks, covers}
 use Rattle.entries.specs.Rights.{allows}
 use Rattle.entries.proofs.Covers.{cover-some}
 use Rattle.rules.specs.Store.{Counter, writable, executable, linked}
@@ -21,6 +21,7 @@ fault-is unaccepted h = absurd (false≢true h)
 fault-is (link p) h = absurd (false≢true h)
 fault-is (section b r) h = absurd (false≢true h)
 fault-is (page b r) h = absurd (false≢true h)
+fault-is (large b r) h = absurd (false≢true h)
 
 pub gives-fault : (c : Counter) (p : ℕ) → gives c fault p ≡ false
 unfolding gives grants allows rights isLink
@@ -40,6 +41,7 @@ unfolding grants allows rights isLink placeBlocks
 grants-place c (link p) h = omega arith
 grants-place c (section b r) h = omega arith
 grants-place c (page b r) h = omega arith
+grants-place c (large b r) h = omega arith
 grants-place writable fault h = absurd (false≢true h)
 grants-place executable fault h = absurd (false≢true h)
 grants-place linked fault h = absurd (false≢true h)

@@ -12,11 +12,11 @@ use borrow.Author.Tests.{le-ltb, lt-leb}
 use Rattle.words.specs.Bounded.{above, neqb, among, sum, num}
 use Rattle.words.proofs.Bounded.{any-avoids, false-unless, and-true-right, same, among-in, among-within}
 use Rattle.signature.specs.Signed.{misfitImage}
-use Rattle.entries.specs.Entries.{Entry, fault, page, l2, entryAt, isFault, rights, placeFirst, coverFirst, placeBlocks, coverBlocks, covers}
+use Rattle.entries.specs.Entries.{Entry, Level, fault, page, l2, entryAt, isFault, rights, placeFirst, coverFirst, placeBlocks, coverBlocks, covers, isLarge}
 use Rattle.entries.specs.Written.{wordOf, cacheable}
 use Rattle.entries.specs.Rights.{write, execute, allows}
 use Rattle.entries.specs.Rights.{unlawfulRights}
-use Rattle.entries.proofs.RoundTrip.{Encodable, a-fault, a-page, Grantable, none, read, readWrite, readExecute}
+use Rattle.entries.proofs.RoundTrip.{Single, a-fault, a-link, a-section, a-page, singly, Grantable, none, read, readWrite, readExecute}
 use Rattle.rules.specs.Store.{blockWords, counterLimit, Store, blocks, base, Counter, writable, executable, counter, typeOf, someBlock, fill}
 use Rattle.rules.specs.Signature.{signedBlock}
 use Rattle.rules.specs.Tables.{typeD, typeCode, tableEntries, pages, wordIndex, tableEntry, grants, gives, gain}
@@ -24,7 +24,7 @@ use Rattle.rules.specs.General.{tableOutside, otherType, holder, executa
 use Rattle.rules.specs.Map.{unfitTarget, clashingTarget, unsignedTarget, mapRefusals, mapOutcome}
 use Rattle.rules.specs.Unmap.{unmapRefusals, unmapAfter, unmapOutcome}
 use Rattle.rules.specs.Steps.{Step, maps, unmaps, obey, run, Told, afterAccepted}
-use Rattle.rules.specs.Policies.{WritableByOneEntry, thereAndBack}
+use Rattle.rules.specs.Policies.{forAnother, WritableByOneEntry, thereAndBack}
 use Rattle.rules.proofs.Refusals.{Passed, done, step}
 use Rattle.rules.proofs.Gains.{gives-fault, gives-within, gain-most}
 use Rattle.rules.proofs.Memory.{length-fill, entryAt-fill, contents-fill, signedBlock-same}
@@ -47,12 +47,21 @@ pub record Alone (B : ℕ) (h : Told) (s : Store) (p i t : ℕ) (e : Entry) : Ty
   pub free : h .types t ≡ typeD
   pub signs : signedBlock (h .golden) B (s .memory) t ≡ true
   pub holds : entryAt l2 (s .memory) (blockWords * (p - B) + i) ≡ e
+  pub not-large : isLarge e ≡ false
   pub only : recorded s writable (t - B) + recorded s executable (t - B) ≡ num (gives writable e t) + num (gives executable e t)
   pub holder-unexecuted : recorded s executable (p - B) ≡ 0
 
 gain-one : (x : ℕ → Entry) (c : Counter) (q : ℕ) → gain 1 x c q ≡ num (gives c (x 0) q)
 unfolding gain sum
 gain-one x c q = zero-add (num (gives c (x 0) q))
+
+-- what is written at a word by itself is no large page
+no-large : {v : Level} {e : Entry} → Single v e → isLarge e ≡ false
+unfolding isLarge
+no-large a-fault = refl
+no-large (a-link p) = refl
+no-large (a-section b g) = refl
+no-large (a-page b g) = refl
 
 -- one entry more or less leaves a counter a word
 end-small : (d : Change) (old k : ℕ) → old ≤ counterLimit → k ≤ 1 → endValue d old k < 2 ^ 32
@@ -88,7 +97,7 @@ module _ {h : Told} {s : Store} (r : Running h s) {p i t : ℕ} {e : Entry} (a :
         let small = end-small d (recorded s c (q - base s)) (gain 1 x c (base s + (q - base s))) (counts-limit (r .consistent) (r .fit .at-most) c (q - base s) (omega arith)) (gain-most 1 x c _) in
         counter-recounted d s 1 x (r .fit .ledger-length) c (q - base s) (omega arith) small ∙ is
 
-    edit-alone : Encodable l2 y
+    edit-alone : Single l2 y
         → endValue d (recorded s writable (t - base s)) (num (gives writable (x 0) t)) + endValue d (recorded s executable (t - base s)) (num (gives executable (x 0) t)) ≡ num (gives writable y t) + num (gives executable y t)
         → endValue d (recorded s executable (p - base s)) (num (gives executable (x 0) p)) ≡ 0
         → Alone (base s) h after p i t y
@@ -106,7 +115,8 @@ module _ {h : Told} {s : Store} (r : Running h s) {p i t : ℕ} {e : Entry} (a :
           high = omega arith;
           free = a .free;
           signs = rw at at (signedBlock-same (h .golden) (base s) (after .memory) (s .memory) (t - base s) (contents-fill (s .memory) (wordIndex s p i) (λ k. wordOf cacheable y) 1 (t - base s) (λ k. omega arith))) ∙ a .signs;
-          holds = rw add-zero at (entryAt-fill l2 (s .memory) (wordIndex s p i) cacheable (λ k. y) 1 (λ k l. written) (omega arith) 0 (omega arith));
+          holds = rw add-zero at (entryAt-fill l2 (s .memory) (wordIndex s p i) cacheable (λ k. y) 1 (singly (λ k l. written)) (omega arith) 0 (omega arith));
+          not-large = no-large written;
           only = rw (left writable t (a .low) (a .high), left executable t (a .low) (a .high)) uses;
           holder-unexecuted = left executable p (a .table-low) (a .table-high) ∙ unexecuted;
         }
@@ -125,10 +135,11 @@ module _ {h : Told} {s : Store} (r : Running h s) {p i t : ℕ} {e : Entry} (a :
   unexecuted = rw own-holder (le-ltb 0 (counter executable s p) (omega (arith, a .holder-unexecuted)))
 
   unmap-passes : Passed (take 9 (unmapRefusals pages s p i))
+  unfolding forAnother
   unmap-passes =
       let in-table : (k : ℕ) → k < 1 → i + k < tableEntries l2 = λ k l. omega arith in
       step (no-misfit r) (step table-inside (step (same (p % 1) 0 (mod-one p)) (step (same (i % 1) 0 (mod-one i)) (step (lt-leb (tableEntries l2) i (a .index)) (step typed (step unexecuted
-      (step (all-taken pages s p i (none-unaccepted r l2 p table-inside typed 1 (λ k. i + k) in-table)) (step (none-astray r l2 p table-inside typed 1 (λ k. i + k) in-table) done))))))))
+      (step (all-taken s p i pages (same (i % 1) 0 (mod-one i)) (none-unaccepted r l2 p table-inside typed 1 (λ k. i + k) in-table) (rw (a .holds) (a .not-large))) (step (none-astray r l2 p table-inside typed 1 (λ k. i + k) in-table) done))))))))
 
   -- the block is no longer counted for write or execute
   unmap-alone : Alone (base s) h (unmapAfter pages s p i) p i t fault
@@ -226,7 +237,7 @@ page-gives t = (rw (among-in t 1 t (omega arith) (omega arith)) refl, refl)
 module _ {h : Told} {s : Store} (r : Running h s) {p i t : ℕ} where
   -- the entry is sound and counted, so that its target is data and not executable
   alone-of : WritableByOneEntry h s p i t → Alone (h .B) h s p i t (page t 3)
-  unfolding coverFirst placeFirst coverBlocks placeBlocks num
+  unfolding coverFirst placeFirst coverBlocks placeBlocks num isLarge
   alone-of w = go (subst (λ (b : ℕ). Inv b (blocks s) h s) (sym (r .told-base)) r) where
     go : Inv (h .B) (blocks s) h s → Alone (h .B) h s p i t (page t 3)
     go v =
@@ -252,6 +263,7 @@ module _ {h : Told} {s : Store} (r : Running h s) {p i t : ℕ} where
           signs = w .signs;
           holds = w .entry;
           only = rw (one, none, writes, executes) refl;
+          not-large = refl;
           holder-unexecuted = safe r .honest executable (p - h .B) (omega arith) ∙ w .holder;
         }
 

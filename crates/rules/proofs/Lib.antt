@@ -33,4 +33,5 @@ pub mod Blank
 pub mod Fetching
 pub mod Acceptance
 pub mod Edges
+pub mod LargeWitnesses
 pub mod Ascending

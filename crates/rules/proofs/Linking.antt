@@ -4,11 +4,11 @@ use mathlib.Core.Path.{_≡_, refl, sym, _∙_}
 use Prim.Native.Nat.{ℕ, _+_, _*_, _/_, _<_, _≤_}
 use native.Mathlib.Omega.{arith}
 use borrow.Author.Tests.{leb-false}
-use Rattle.entries.specs.Entries.{l1, l2, isUnaccepted, rights, placeFirst, coverFirst, placeBlocks, coverBlocks, blockTables}
+use Rattle.entries.specs.Entries.{fault, l1, l2, isFault, isUnaccepted, isLink, isSection, isPage, rights, placeFirst, coverFirst, placeBlocks, coverBlocks, blockTables}
 use Rattle.entries.specs.Rights.{allows}
-use Rattle.entries.proofs.RoundTrip.{Encodable, a-link}
+use Rattle.entries.proofs.RoundTrip.{Encodable, singly, a-link}
 use Rattle.rules.specs.Store.{Store, blocks, base, Counter, writable, executable, linked, typeOf}
-use Rattle.rules.specs.Tables.{typeCode, tableBlocks, grants, gives, gain, astray}
+use Rattle.rules.specs.Tables.{typeCode, tableBlocks, wordIndex, grants, gives, gain, astray}
 use Rattle.rules.specs.General.{occupied, entered, tableOutside, beyondTable, otherType, holder, executableHolder, added, someOverrun}
 use Rattle.rules.specs.Link.{linkTo, linkRefusals, linkOutcome}
 use Rattle.rules.specs.Steps.{links, Told, afterAccepted}
@@ -16,7 +16,7 @@ use Rattle.rules.proofs.Refusals.{Passed, front, now, rest}
 use Rattle.rules.proofs.Gains.{gives-within, gain-none}
 use Rattle.rules.proofs.Consistent.{Suits, Sound}
 use Rattle.rules.proofs.State.{typeAt, Fit, fits, Running, equal, within, type-told, Next, next-13}
-use Rattle.rules.proofs.Edits.{slot, Harmless, enters}
+use Rattle.rules.proofs.Edits.{Apart, as-singles, slot, Harmless, enters}
 
 -- what passed the tests of a link, whatever the store
 pub record Linkable (s : Store) (p i t j : ℕ) : Type 0 where
@@ -51,8 +51,8 @@ linkable s p i t j t1 =
       target-type = equal (typeOf s t) (typeCode l2) (now (rest t10));
     }
 
-pub link-written : {s : Store} {p i t j : ℕ} → Linkable s p i t j → Encodable l1 (linkTo t j)
-link-written {s} {p} {i} {t} {j} can = let (low, high) = within (base s) (blocks s) t (tableBlocks l2) (can .target-inside) in a-link {p = blockTables * t + j} (omega arith)
+pub link-written : {s : Store} {p i t j : ℕ} (a : ℕ) → Linkable s p i t j → Encodable l1 a 1 (λ k. linkTo t j)
+link-written {s} {p} {i} {t} {j} a can = let (low, high) = within (base s) (blocks s) t (tableBlocks l2) (can .target-inside) in singly (λ k _. a-link {p = blockTables * t + j} (omega arith))
 
 module _ (p i t j : ℕ) {h : Told} {s : Store} (r : Running h s) (can : Linkable s p i t j) where
   -- a link leads to its target, an L2 block
@@ -85,10 +85,15 @@ module _ (p i t j : ℕ) {h : Told} {s : Store} (r : Running h s) (can : Linkabl
         spares-holder = link-gives executable (holder p i) refl;
       }
 
+  -- what stands by itself, where a fault did
+  link-beside : Apart (wordIndex s p i) 1 (λ k. fault) (λ k. linkTo t j)
+  unfolding isFault isSection isLink isPage
+  link-beside = as-singles (λ k _. (refl, refl))
+
   linked-to : (someOverrun added s 1 (λ k. linkTo t j) ≡ false) × Running h (entered s p i 1 (λ k. linkTo t j))
   linked-to =
       let sl = slot r l1 p i 1 (omega arith) (can .table-inside) (can .index-inside) (can .typed) (can .unexecuted-holder) in
-      enters r l1 p i 1 sl (λ k. linkTo t j) link-harmless (λ k l. link-written can) (can .free) (λ k l. link-sound)
+      enters r l1 p i 1 sl (λ k. linkTo t j) link-harmless (link-written (wordIndex s p i) can) link-beside (can .free) (λ k l. link-sound)
 
 pub link-next : (p i t j : ℕ) {h : Told} {s : Store} → Running h s → Next h (links p i t j) (linkOutcome s p i t j)
 unfolding linkOutcome afterAccepted

@@ -8,14 +8,14 @@ use native.Mathlib.Omega.{arith}
 use borrow.Author.Tests.{ltb-false, not-false}
 use Rattle.words.specs.Bounded.{above, neqb, among}
 use Rattle.words.proofs.Bounded.{false-unless, or-false-left, or-false-right, and-false-right, among-in}
-use Rattle.entries.specs.Entries.{Entry, isUnaccepted, isLink, rights as rightsOfEntry, placeFirst, placeBlocks}
+use Rattle.entries.specs.Entries.{Entry, fault, isFault, isUnaccepted, isLink, isSection, isPage, rights as rightsOfEntry, placeFirst, placeBlocks}
 use Rattle.entries.specs.Rights as rights
 use Rattle.entries.specs.Rights.{allows, unlawfulRights}
 use Rattle.entries.proofs.Covers.{cover-low, cover-high}
-use Rattle.entries.proofs.RoundTrip.{Grantable, none, read, readWrite, readExecute, Encodable, a-section, a-page}
+use Rattle.entries.proofs.RoundTrip.{Grantable, none, read, readWrite, readExecute, a-section, a-page, Encodable, singly, in-run}
 use Rattle.rules.specs.Store.{Store, blocks, base, recordWord, Counter, writable, executable, linked, counterWord, counter, typeOf, outside, someBlock}
 use Rattle.rules.specs.Signature.{signedBlock}
-use Rattle.rules.specs.Tables.{typeD, typeCode, Form, sections, pages, level, targetBlocks, mappingWords, mapping, grants, gives, gain, astray}
+use Rattle.rules.specs.Tables.{typeD, typeCode, Form, sections, pages, larges, level, targetBlocks, mappingWords, mapping, wordIndex, grants, gives, gain, astray}
 use Rattle.rules.specs.General.{tableOutside, misaligned, beyondTable, otherType, executableHolder, occupied, holder, added, someOverrun, entered}
 use Rattle.rules.specs.Map.{unfitTarget, clashingTarget, unsignedTarget, mapRefusals, mapOutcome}
 use Rattle.rules.specs.Steps.{maps, Told, afterAccepted}
@@ -24,7 +24,7 @@ use Rattle.rules.proofs.Gains.{gives-within, gain-none, gain-found}
 use Rattle.rules.proofs.Consistent.{Suits, Sound}
 use Rattle.rules.proofs.State.{Fit, fits, Running, equal, within, no-block-at, type-told, Next, next-13}
 use Rattle.rules.proofs.Changes.{counter-none}
-use Rattle.rules.proofs.Edits.{slot, words-in-block, Harmless, enters}
+use Rattle.rules.proofs.Edits.{Apart, as-run, as-singles, slot, words-in-block, Harmless, enters}
 
 -- the rights that pass 9 and are not both write and execute
 grantable : (r : ℕ) → unlawfulRights r ≡ false → (allows r rights.write && allows r rights.execute) ≡ false → Grantable r
@@ -45,36 +45,58 @@ grantable (suc (suc (suc (suc (suc (suc (suc (suc r)))))))) t u =
 pub target-above : (f : Form) → 0 < targetBlocks f
 target-above sections = omega arith
 target-above pages = omega arith
+target-above larges = omega arith
 
--- the entries that are mapped: word k of the mapping
+-- the entries that are mapped, in a window whose first word is a multiple of their number
+module _ (t r j : ℕ) where
+  mapping-encodable : (f : Form) → t < 2 ^ 20 → t % targetBlocks f ≡ 0 → Grantable r → j % mappingWords f ≡ 0 → Encodable (level f) j (mappingWords f) (mapping f t r)
+  mapping-encodable sections l a g i = singly (λ k _. a-section (l, a) g)
+  mapping-encodable pages l a g i = singly (λ k _. a-page l g)
+  mapping-encodable larges l a g i = in-run i (l, a) g (λ k. refl)
+
+  mapping-apart : (f : Form) → j % mappingWords f ≡ 0 → Apart j (mappingWords f) (λ k. fault) (mapping f t r)
+  unfolding isFault isSection isLink isPage
+  mapping-apart sections i = as-singles (λ k _. (refl, refl))
+  mapping-apart pages i = as-singles (λ k _. (refl, refl))
+  mapping-apart larges i = as-run i refl
+
+-- word k of the mapping
 module _ (t r k : ℕ) where
-  mapping-encodable : (f : Form) → t < 2 ^ 20 → t % targetBlocks f ≡ 0 → Grantable r → Encodable (level f) (mapping f t r k)
-  mapping-encodable sections l a g = a-section (l, a) g
-  mapping-encodable pages l a g = a-page l g
-
   pub mapping-grants : (f : Form) → (grants writable (mapping f t r k) ≡ allows r rights.write) × (grants executable (mapping f t r k) ≡ allows r rights.execute) × (grants linked (mapping f t r k) ≡ false)
   unfolding grants rightsOfEntry isLink
   mapping-grants sections = (refl, refl, refl)
   mapping-grants pages = (refl, refl, refl)
+  mapping-grants larges = (refl, refl, refl)
 
   mapping-accepted : (f : Form) → isUnaccepted (mapping f t r k) ≡ false
   unfolding isUnaccepted
   mapping-accepted sections = refl
   mapping-accepted pages = refl
+  mapping-accepted larges = refl
 
-  -- its place is the target
-  mapping-place : (f : Form) → (placeFirst (mapping f t r k) ≡ t) × (placeBlocks (mapping f t r k) ≡ targetBlocks f)
-  unfolding placeFirst placeBlocks
-  mapping-place sections = (refl, refl)
-  mapping-place pages = (refl, refl)
+  module _ (f : Form) (aligned : t % targetBlocks f ≡ 0) (l : k < mappingWords f) where
+    -- its place is the target
+    mapping-place : (placeFirst (mapping f t r k) ≡ t) × (placeBlocks (mapping f t r k) ≡ targetBlocks f)
+    unfolding placeFirst placeBlocks
+    mapping-place = place f aligned l where
+      place : (f : Form) → t % targetBlocks f ≡ 0 → k < mappingWords f → (placeFirst (mapping f t r k) ≡ t) × (placeBlocks (mapping f t r k) ≡ targetBlocks f)
+      place sections a l = (refl, refl)
+      place pages a l = (refl, refl)
+      place larges a l = (omega arith, refl)
 
-  -- a block that is given something is a block of the target
-  mapping-gives : (f : Form) (c : Counter) (q : ℕ) → gives c (mapping f t r k) q ≡ true → (t ≤ q) × (q < t + targetBlocks f)
-  mapping-gives f c q g =
-      let e = mapping f t r k in
-      let (_, lo, hi) = gives-within c e q g in
-      let (start, length) = mapping-place f in
-      (omega (arith, cover-low e), omega (arith, cover-high e))
+    -- a block that is given something is a block of the target
+    mapping-gives : (c : Counter) (q : ℕ) → gives c (mapping f t r k) q ≡ true → (t ≤ q) × (q < t + targetBlocks f)
+    mapping-gives c q g =
+        let e = mapping f t r k in
+        let (_, lo, hi) = gives-within c e q g in
+        let (start, length) = mapping-place in
+        (omega (arith, cover-low e), omega (arith, cover-high e))
+
+-- an index that is a multiple of a mapping's words is one in the memory too
+pub word-aligned : (f : Form) (s : Store) (p i : ℕ) → misaligned i (mappingWords f) ≡ false → wordIndex s p i % mappingWords f ≡ 0
+word-aligned sections s p i t = omega arith
+word-aligned pages s p i t = omega arith
+word-aligned larges s p i t = let multiple = equal (i % mappingWords larges) 0 t in omega arith
 
 -- What the tests of a map tell, whatever the store
 
@@ -134,14 +156,15 @@ module _ (f : Form) (golden : List ℕ) (s : Store) (p i t q : ℕ) where
         unwritten = and-false-right executes (over (counts writable)) (or-false-right (both || on-executable) on-writable e);
       }
 
-  pub target-inside : Fitting → (k : ℕ) → astray (base s) (blocks s) (mapping f t q k) ≡ false
+  pub target-inside : Fitting → t % targetBlocks f ≡ 0 → (k : ℕ) → k < mappingWords f → astray (base s) (blocks s) (mapping f t q k) ≡ false
   unfolding astray
-  target-inside fit k = let (start, length) = mapping-place t q k f in rw (start, length, fit .in-region) (and-false (above (targetBlocks f) 0))
+  target-inside fit multiple k l = let (start, length) = mapping-place t q k f multiple l in rw (start, length, fit .in-region) (and-false (above (targetBlocks f) 0))
 
   -- what passed the tests: the table and the index, the target, the rights
   pub record Mappable : Type 0 where
     pub region : Fit (base s) (blocks s) s
     pub table-inside : tableOutside (level f) s p ≡ false
+    pub target-aligned : t % targetBlocks f ≡ 0
     pub aligned : misaligned i (mappingWords f) ≡ false
     pub index-inside : beyondTable (level f) i ≡ false
     pub typed : otherType (level f) s p (typeCode (level f)) ≡ false
@@ -150,7 +173,8 @@ module _ (f : Form) (golden : List ℕ) (s : Store) (p i t q : ℕ) where
     pub fits-target : Fitting
     pub apart : Alone
     pub signed : unsignedTarget f golden s t q ≡ false
-    pub written : (k : ℕ) → Encodable (level f) (mapping f t q k)
+    pub written : Encodable (level f) (wordIndex s p i) (mappingWords f) (mapping f t q)
+    pub beside : Apart (wordIndex s p i) (mappingWords f) (λ k. fault) (mapping f t q)
 
   pub mappable : Passed (front (mapRefusals f golden s p i t q)) → Mappable
   mappable t1 =
@@ -168,9 +192,11 @@ module _ (f : Form) (golden : List ℕ) (s : Store) (p i t q : ℕ) where
       let apart = alone (now t11) in
       let region = fits s (base s) (now t1) in
       let (low, high) = within (base s) (blocks s) t (targetBlocks f) (fit .in-region) in
+      let multiple = word-aligned f s p i (now t3′) in
       record {
         region = region;
         table-inside = now t2;
+        target-aligned = equal (t % targetBlocks f) 0 (now t3);
         aligned = now t3′;
         index-inside = now t4;
         typed = now t5;
@@ -179,7 +205,8 @@ module _ (f : Form) (golden : List ℕ) (s : Store) (p i t q : ℕ) where
         fits-target = fit;
         apart = apart;
         signed = now (rest t11);
-        written = λ k. mapping-encodable t q k f (omega (arith, target-above f)) (equal (t % targetBlocks f) 0 (now t3)) (grantable q (now t9) (apart .not-both));
+        written = mapping-encodable t q (wordIndex s p i) f (omega (arith, target-above f)) (equal (t % targetBlocks f) 0 (now t3)) (grantable q (now t9) (apart .not-both)) multiple;
+        beside = mapping-apart t q (wordIndex s p i) f multiple;
       }
 
 -- Map
@@ -192,32 +219,32 @@ module _ (f : Form) (p i t q : ℕ) {h : Told} {s : Store} (r : Running h s) (ca
   m = mappingWords f
 
   -- what an entry gives, and to which block
-  given : (c : Counter) (k b : ℕ) → gives c (x k) (base s + b) ≡ true → (grants c (x k) ≡ true) × (t ≤ base s + b) × (base s + b < t + targetBlocks f)
-  given c k b g = let (lo, hi) = mapping-gives t q k f c (base s + b) g in (gives-within c (x k) (base s + b) g .0, lo, hi)
+  given : (c : Counter) (k b : ℕ) → k < m → gives c (x k) (base s + b) ≡ true → (grants c (x k) ≡ true) × (t ≤ base s + b) × (base s + b < t + targetBlocks f)
+  given c k b l g = let (lo, hi) = mapping-gives t q k f (can .target-aligned) l c (base s + b) g in (gives-within c (x k) (base s + b) g .0, lo, hi)
 
   -- a counter of a block of the target
   no-count : (c : Counter) (b : ℕ) → someBlock t (targetBlocks f) (λ a. above (counter c s a) 0) ≡ false → t ≤ base s + b → base s + b < t + targetBlocks f
       → recordWord (s .ledger) (counterWord c) b ≡ 0
   no-count c b e lo hi = counter-none c s b (no-block-at t (targetBlocks f) (λ a. above (counter c s a) 0) e (base s + b) lo hi)
 
-  map-sound : (k : ℕ) → Sound (base s) (blocks s) (λ b. h .types (base s + b)) (x k)
-  map-sound k = record { accepted = mapping-accepted t q k f; inside = target-inside f (h .golden) s p i t q (can .fits-target) k; suits = suits } where
+  map-sound : (k : ℕ) → k < m → Sound (base s) (blocks s) (λ b. h .types (base s + b)) (x k)
+  map-sound k l = record { accepted = mapping-accepted t q k f; inside = target-inside f (h .golden) s p i t q (can .fits-target) (can .target-aligned) k l; suits = suits } where
     suits : (c : Counter) (b : ℕ) → b < blocks s → gives c (x k) (base s + b) ≡ true → Suits c (h .types (base s + b))
-    suits writable b l g =
-        let (grant, lo, hi) = given writable k b g in
+    suits writable b inside g =
+        let (grant, lo, hi) = given writable k b l g in
         let is = no-block-at t (targetBlocks f) (λ a. neqb (typeOf s a) typeD) (can .fits-target .data-only (sym (mapping-grants t q k f .0) ∙ grant)) (base s + b) lo hi in
         sym (type-told r (base s + b) (omega arith) (omega arith)) ∙ equal (typeOf s (base s + b)) typeD is
-    suits executable b l g = tt
-    suits linked b l g = absurd (false≢true (sym (mapping-grants t q k f .2) ∙ given linked k b g .0))
+    suits executable b inside g = tt
+    suits linked b inside g = absurd (false≢true (sym (mapping-grants t q k f .2) ∙ given linked k b l g .0))
 
   -- a block that gains w is to be written, one that gains x to be executed
   gains-write : (b : ℕ) → 0 < gain m x writable (base s + b) → (allows q rights.write ≡ true) × (t ≤ base s + b) × (base s + b < t + targetBlocks f)
   gains-write b g =
-      let (k, _, e) = gain-found m x writable (base s + b) g in let (grant, lo, hi) = given writable k b e in (sym (mapping-grants t q k f .0) ∙ grant, lo, hi)
+      let (k, l, e) = gain-found m x writable (base s + b) g in let (grant, lo, hi) = given writable k b l e in (sym (mapping-grants t q k f .0) ∙ grant, lo, hi)
 
   gains-execute : (b : ℕ) → 0 < gain m x executable (base s + b) → (allows q rights.execute ≡ true) × (t ≤ base s + b) × (base s + b < t + targetBlocks f)
   gains-execute b g =
-      let (k, _, e) = gain-found m x executable (base s + b) g in let (grant, lo, hi) = given executable k b e in (sym (mapping-grants t q k f .1) ∙ grant, lo, hi)
+      let (k, l, e) = gain-found m x executable (base s + b) g in let (grant, lo, hi) = given executable k b l e in (sym (mapping-grants t q k f .1) ∙ grant, lo, hi)
 
   map-harmless : Harmless h s p i m x
   unfolding unsignedTarget gives
@@ -233,16 +260,16 @@ module _ (f : Form) (p i t q : ℕ) {h : Told} {s : Store} (r : Running h s) (ca
             let (e, lo, hi) = gains-execute b g in
             let none = and-false-right (allows q rights.execute) (someBlock t (targetBlocks f) unsigned) (can .signed) e in
             not-false (signedBlock (h .golden) (base s) (s .memory) (base s + b)) (no-block-at t (targetBlocks f) unsigned none (base s + b) lo hi);
-        spares-holder = gain-none m x executable (holder p i) (λ k _.
+        spares-holder = gain-none m x executable (holder p i) (λ k l.
             false-unless (gives executable (x k) (holder p i)) (λ g.
-            let (lo, hi) = mapping-gives t q k f executable (holder p i) g in
+            let (lo, hi) = mapping-gives t q k f (can .target-aligned) l executable (holder p i) g in
             can .fits-target .not-holder (sym (mapping-grants t q k f .1) ∙ gives-within executable (x k) (holder p i) g .0) lo hi));
       }
 
   mapped : (someOverrun added s m x ≡ false) × Running h (entered s p i m x)
   mapped =
       let sl = slot r (level f) p i m (words-in-block f i (can .aligned)) (can .table-inside) (can .index-inside) (can .typed) (can .unexecuted-holder) in
-      enters r (level f) p i m sl x map-harmless (λ k l. can .written k) (can .free) (λ k l. map-sound k)
+      enters r (level f) p i m sl x map-harmless (can .written) (can .beside) (can .free) map-sound
 
 pub map-next : (f : Form) (p i t q : ℕ) {h : Told} {s : Store} → Running h s → Next h (maps f p i t q) (mapOutcome f (h .golden) s p i t q)
 unfolding mapOutcome afterAccepted

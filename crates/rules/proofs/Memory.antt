@@ -1,19 +1,19 @@
 -- Laws of the memory: a store changes the contents of its own block only, and words elsewhere keep their entries.
 use mathlib.Core.List.{List}
-use mathlib.Core.Logic.{⊎-elim}
+use mathlib.Core.Logic.{_⊎_, ⊎-elim, inl, inr}
 use mathlib.Core.Path.{_≡_, refl, sym, _∙_, ap}
-use Prim.Native.Nat.{ℕ, zero, suc, _+_, _-_, _*_, _/_, _%_, _<_, _≤_}
+use Prim.Native.Nat.{ℕ, zero, suc, _+_, _-_, _*_, _/_, _%_, _^_, _<_, _≤_}
 use native.Mathlib.Omega.{arith}
 use lib.ListN.{length, getD, set, length-set}
 use lib.Seq.{getD-set-other}
 use Rattle.words.specs.Words.{word}
-use Rattle.words.proofs.Bounded.{last-or-below, below-or-above}
+use Rattle.words.proofs.Bounded.{last-or-below, below-or-above, window-or-outside}
 use Rattle.words.proofs.Lists.{getD-part, part-same}
-use Rattle.words.proofs.Words.{length-putWord, getD-putWord-other, word-cong}
-use Rattle.entries.specs.Entries.{Entry, Level, entryAt}
+use Rattle.words.proofs.Words.{length-putWord, getD-putWord-other, word-cong, word-putWord-same, word-putWord-other}
+use Rattle.entries.specs.Entries.{Entry, Level, entryAt, runWords}
 use Rattle.entries.specs.Written.{wordOf}
-use Rattle.entries.proofs.Decoding.{entryAt-cong, entryAt-putWord-other}
-use Rattle.entries.proofs.RoundTrip.{written-reads-back, Encodable}
+use Rattle.entries.proofs.Decoding.{Lone, entryAt-beside, entryAt-cong}
+use Rattle.entries.proofs.RoundTrip.{written-bound, written-reads-back, Encodable}
 use Rattle.rules.specs.Store.{blockBytes, blockWords, fill}
 use Rattle.rules.specs.Signature.{contents, signedBlock}
 
@@ -38,24 +38,34 @@ module _ (mem : List ℕ) (j : ℕ) (w : ℕ → ℕ) where
     away : (k : ℕ) → 4 * i ≤ k → k < 4 * i + 4 → 4 * j ≤ k → 4 * (j + m) ≤ k
     away k lo hi h = ⊎-elim (λ (l : i < j). let z : ⊥ = omega arith in absurd z) (λ (l : j ≤ i). omega (arith, o l)) (below-or-above i j)
 
-  -- an entry outside
-  pub entryAt-fill-other : (v : Level) (m i : ℕ) → (j ≤ i → j + m ≤ i) → entryAt v (fill mem j m w) i ≡ entryAt v mem i
+  -- a word of the window
+  word-fill : (m : ℕ) → ((k : ℕ) → k < m → w k < 2 ^ 32) → 4 * (j + m) ≤ length mem → (i : ℕ) → i < m → word (fill mem j m w) (4 * (j + i)) ≡ w i
   unfolding fill
-  entryAt-fill-other v zero i o = refl
-  entryAt-fill-other v (suc m) i o =
-      entryAt-putWord-other v (fill mem j m w) (j + m) i (w m) (λ e. omega (arith, o (omega arith))) ∙ entryAt-fill-other v m i (λ h. omega (arith, o h))
+  word-fill zero small h i l = let z : ⊥ = omega arith in absurd z
+  word-fill (suc m) small h i l =
+      ⊎-elim
+      (λ (q : i ≡ m). rw q (word-putWord-same (fill mem j m w) (4 * (j + m)) (w m) (rw (length-fill m) (omega arith)) (small m (omega arith))))
+      (λ (s : i < m). word-putWord-other (fill mem j m w) (4 * (j + m)) (w m) (4 * (j + i)) (λ t. omega arith) ∙ word-fill m (λ k l. small k (omega arith)) (omega arith) i s)
+      (last-or-below l)
+
+  -- an entry outside, whose aligned sixteen words lie outside too, or have lone words in the window before and after
+  pub entryAt-fill-other : (v : Level) (m i : ℕ) → (j ≤ i → j + m ≤ i)
+      → ((k : ℕ) → k < m → (j + k) / runWords ≡ i / runWords → Lone v (word mem (4 * (j + k))) × Lone v (word (fill mem j m w) (4 * (j + k))))
+      → entryAt v (fill mem j m w) i ≡ entryAt v mem i
+  entryAt-fill-other v m i o lone = entryAt-beside v (fill mem j m w) mem i (word-fill-other m i o) (λ a near. go a near (window-or-outside a j m)) where
+    go : (a : ℕ) → a / runWords ≡ i / runWords → ((j ≤ a) × (a < j + m)) ⊎ (j ≤ a → j + m ≤ a)
+        → (word (fill mem j m w) (4 * a) ≡ word mem (4 * a)) ⊎ (Lone v (word (fill mem j m w) (4 * a)) × Lone v (word mem (4 * a)))
+    go a near (inl (lo, hi)) =
+        let at : j + (a - j) ≡ a = omega arith in
+        let (before, after) = rw at at (lone (a - j) (omega arith) (ap (λ (n : ℕ). n / runWords) at ∙ near)) in
+        inr (after, before)
+    go a near (inr out) = inl (word-fill-other m a out)
 
 -- the words of a window of entries: what is written reads back
-pub entryAt-fill : (v : Level) (mem : List ℕ) (j kind : ℕ) (e : ℕ → Entry) (m : ℕ) → ((i : ℕ) → i < m → Encodable v (e i)) → 4 * (j + m) ≤ length mem
+pub entryAt-fill : (v : Level) (mem : List ℕ) (j kind : ℕ) (e : ℕ → Entry) (m : ℕ) → Encodable v j m e → 4 * (j + m) ≤ length mem
     → (i : ℕ) → i < m → entryAt v (fill mem j m (λ k. wordOf kind (e k))) (j + i) ≡ e i
-unfolding fill
-entryAt-fill v mem j kind e zero x h i l = let z : ⊥ = omega arith in absurd z
-entryAt-fill v mem j kind e (suc m) x h i l =
-    let filled = fill mem j m (λ k. wordOf kind (e k)) in
-    ⊎-elim
-    (λ (q : i ≡ m). rw q (written-reads-back kind filled (j + m) (rw (length-fill mem j (λ k. wordOf kind (e k)) m) (omega arith)) (x m (omega arith))))
-    (λ (s : i < m). entryAt-putWord-other v filled (j + m) (j + i) (wordOf kind (e m)) (λ q. omega arith) ∙ entryAt-fill v mem j kind e m (λ k l. x k (omega arith)) (omega arith) i s)
-    (last-or-below l)
+entryAt-fill v mem j kind e m x h =
+    written-reads-back kind (fill mem j m (λ k. wordOf kind (e k))) x (word-fill mem j (λ k. wordOf kind (e k)) m (written-bound kind x) h)
 
 -- Blocks
 

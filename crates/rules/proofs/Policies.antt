@@ -1,20 +1,23 @@
 -- The policies (RULES: policies) hold of every list: each state that it reaches keeps the invariant, and the invariant gives each of them.
-use mathlib.Core.Bool.{false}
+use mathlib.Core.Bool.{true, false}
 use mathlib.Core.List.{List, [], _∷_}
 use mathlib.Core.Logic.{_≢_}
+use mathlib.Core.Option.{some}
 use mathlib.Core.Path.{_≡_, refl, subst}
-use Prim.Native.Nat.{ℕ}
-use lib.ListN.{take}
+use Prim.Native.Nat.{ℕ, _+_, _-_, _*_}
+use lib.ListN.{take, getElem?}
 use Rattle.signature.specs.Signed.{misfitImage}
 use Rattle.rules.specs.Refusals.{Refusal, answerOf}
-use Rattle.rules.specs.Store.{Store}
+use Rattle.entries.specs.Entries.{entryAt}
+use Rattle.rules.specs.Store.{blockWords, Store}
+use Rattle.rules.specs.Tables.{level}
 use Rattle.rules.specs.Outcomes.{leaving}
 use Rattle.rules.specs.Free.{freeRefusals, freeAfter, freeOutcome}
 use Rattle.rules.specs.Unmap.{unmapRefusals, unmapAfter, unmapOutcome}
 use Rattle.rules.specs.Guest.{Access, fetches, guestOutcome}
 use Rattle.rules.specs.Steps.{Step, frees, unmaps, accesses, obey, run, Told, begun}
-use Rattle.rules.specs.Demand3.{storeAt}
-use Rattle.rules.specs.Policies.{AltersWritableOnly, KeepsExecutable, KeepsWorkingSet, KeepsWalks, thereAndBack, AtGuestSteps, MeetsSoundEntries, Policies, Policies-hold}
+use Rattle.rules.specs.Demand3.{storeAt, toldAt}
+use Rattle.rules.specs.Policies.{AltersWritableOnly, KeepsExecutable, KeepsWorkingSet, KeepsWalks, thereAndBack, AtGuestSteps, forAnother, Policies, Policies-hold}
 use Rattle.rules.proofs.State.{Running}
 use Rattle.rules.proofs.Starting.{begin-accepted}
 use Rattle.rules.proofs.Demand3.{history-golden, reached, moment}
@@ -31,13 +34,14 @@ module _ (golden : List ℕ) {B : ℕ} {s : Store} (r : Running (begun B golden)
       let m = moment golden refl r steps i (accesses a addr) e in
       rw (m .told-is, m .store-is, m .after-is) (holds (m .told) (m .store) (m .runs) a addr)
 
-  -- what a step never answers in a running state
-  meets : (step : Step) (refusals : Store → List Refusal) → ((now : Store) → obey golden now step .answer ≡ answerOf (refusals now))
-      → ((h : Told) (now : Store) → Running h now → (answerOf (refusals now) ≢ 8) × (answerOf (refusals now) ≢ 10)) → MeetsSoundEntries golden B s steps step
-  meets step refusals is never i k e given =
+  -- what holds of a step's answer in every running state
+  answered : (P : Told → Store → ℕ → Type 0) (step : Step) (refusals : Store → List Refusal) → ((now : Store) → obey golden now step .answer ≡ answerOf (refusals now))
+      → ((h : Told) (now : Store) → Running h now → P h now (answerOf (refusals now)))
+      → (i k : ℕ) → getElem? steps i ≡ some step → getElem? (run golden s steps .answers) i ≡ some k → P (toldAt golden B s steps i) (storeAt golden s steps i) k
+  answered P step refusals is holds i k e given =
       let m = moment golden refl r steps i step e in
       let answer-is : k ≡ answerOf (refusals (m .store)) = cc (m .answer-is, given, is (m .store)) in
-      rw answer-is (never (m .told) (m .store) (m .runs))
+      rw (m .told-is, m .store-is, answer-is) (holds (m .told) (m .store) (m .runs))
 
   upheld : Policies golden B s steps
   unfolding obey freeOutcome unmapOutcome
@@ -56,8 +60,10 @@ module _ (golden : List ℕ) {B : ℕ} {s : Store} (r : Running (begun B golden)
             let zero-is : obey golden (m .store) (accesses fetches addr) .answer ≡ 0 = cc (m .answer-is, accepted) in
             let byte-is : byte ≡ obey golden (m .store) (accesses fetches addr) .byte = cc (m .byte-is, given) in
             rw (m .told-is, m .store-is, byte-is) (guest-fetches-code (m .runs) addr zero-is);
-        free-sound = λ v p. meets (frees v p) (λ now. freeRefusals v now p) (λ now. settle-answer _ now (leaving (freeAfter v now p))) (λ h now r. free-sound r v p);
-        unmap-sound = λ f p j. meets (unmaps f p j) (λ now. unmapRefusals f now p j) (λ now. settle-answer _ now (leaving (unmapAfter f now p j))) (λ h now r. unmap-sound r f p j);
+        free-sound = λ v p. answered (λ h now k. (k ≢ 8) × (k ≢ 10)) (frees v p) (λ now. freeRefusals v now p) (λ now. settle-answer _ now (leaving (freeAfter v now p))) (λ h now r. free-sound r v p);
+        unmap-sound = λ f p j.
+            answered (λ h now k. (k ≢ 10) × (k ≡ 8 → forAnother f (entryAt (level f) (now .memory) (blockWords * (p - h .B) + j)) ≡ true)) (unmaps f p j) (λ now. unmapRefusals f now p j)
+            (λ now. settle-answer _ now (leaving (unmapAfter f now p j))) (λ h now r. rw (r .told-base) (unmap-sound r f p j));
         in-turn = λ image p j t i w.
             subst (λ (g : List ℕ). misfitImage g ≡ false → run g (storeAt golden s steps i) (thereAndBack p j t) .answers ≡ (0 ∷ 0 ∷ 0 ∷ 0 ∷ []))
             (history-golden (begun B golden) (take i steps) (run golden s steps .answers)) (λ lawful. in-turn (reached golden refl r steps i) lawful w) image;

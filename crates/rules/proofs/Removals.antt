@@ -1,52 +1,60 @@
--- Free and unmap never answer 8 or 10: once the block is known to be a table, its entries are among those that the invariant calls sound.
-use mathlib.Core.Bool.{Bool, false, not, _||_, false≢true}
+-- Free never answers 8 or 10, and unmap 10 never and 8 only at an entry that it is not for: once the block is known to be a table, its entries are among
+-- those that the invariant calls sound.
+use mathlib.Core.Bool.{Bool, true, false, not, _||_, false≢true}
 use mathlib.Core.List.{List}
 use mathlib.Core.Logic.{_≢_}
-use mathlib.Core.Path.{_≡_, refl, sym, _∙_}
-use Prim.Native.Nat.{ℕ, _+_, _/_, _<_}
+use mathlib.Core.Path.{_≡_, refl, sym, _∙_, ap}
+use Prim.Native.Nat.{ℕ, _+_, _-_, _*_, _/_, _<_}
+use native.Mathlib.Nat.{add-assoc, add-zero}
 use native.Mathlib.Omega.{arith}
 use lib.ListN.{take, drop}
-use borrow.Author.Tests.{leb-false}
+use borrow.Author.Tests.{leb-false, not-false}
 use Rattle.words.specs.Bounded.{any}
-use Rattle.words.proofs.Bounded.{any-avoids, any-same}
-use Rattle.entries.specs.Entries.{Entry, fault, unaccepted, link, section, page, Level, l1, l2, entryAt, isFault, isUnaccepted, isLink, isSection, isPage}
-use Rattle.entries.proofs.Decoding.{l1-no-page, l2-page-only}
+use Rattle.words.proofs.Bounded.{any-avoids, true-unless}
+use Rattle.entries.specs.Entries.{Entry, fault, unaccepted, link, section, page, large, Level, l1, l2, entryAt, isFault, isUnaccepted, isLink, isSection, isPage, isLarge}
+use Rattle.entries.proofs.Decoding.{l1-no-page, l2-no-link, large-run}
 use Rattle.rules.specs.Refusals.{Refusal, answerOf}
 use Rattle.rules.specs.Store.{blockWords, Store, blocks, base}
-use Rattle.rules.specs.Tables.{typeCode, tableBlocks, tableEntries, Form, sections, pages, level, mappingWords, takes, wordIndex, tableEntry, astray}
+use Rattle.rules.specs.Tables.{typeCode, tableBlocks, tableEntries, Form, sections, pages, larges, level, mappingWords, takes, wordIndex, tableEntry, astray}
 use Rattle.rules.specs.General.{tableOutside, misaligned, beyondTable, otherType}
 use Rattle.rules.specs.Free.{freeRefusals}
 use Rattle.rules.specs.Unmap.{unmapRefusals}
 use Rattle.rules.specs.Steps.{Told}
+use Rattle.rules.specs.Policies.{forAnother}
 use Rattle.rules.proofs.Refusals.{now, rest, middle-avoided}
 use Rattle.rules.proofs.Consistent.{Sound}
 use Rattle.rules.proofs.State.{typeAt, Running, within, types-told}
 use Rattle.rules.proofs.Tables.{word-block, entryOf-table}
 use Rattle.rules.proofs.Edits.{words-in-block}
+use Rattle.rules.proofs.Mapping.{word-aligned}
 
--- what a form's unmap does not take, of the entries of its level, are those that are not accepted
-taken-unless : (f : Form) (mem : List ℕ) (j : ℕ) → not (takes f (entryAt (level f) mem j)) ≡ isUnaccepted (entryAt (level f) mem j)
-unfolding takes isFault isUnaccepted isLink isSection isPage
-taken-unless sections mem j = go (entryAt l1 mem j) (l1-no-page mem j) where
-  go : (e : Entry) → isPage e ≡ false → not (isFault e || isSection e || isLink e) ≡ isUnaccepted e
-  go fault h = refl
-  go unaccepted h = refl
-  go (link p) h = refl
-  go (section b r) h = refl
-  go (page b r) h = absurd (false≢true (sym h))
-taken-unless pages mem j = go (entryAt l2 mem j) (l2-page-only mem j) where
-  go : (e : Entry) → (isLink e ≡ false) × (isSection e ≡ false) → not (isFault e || isPage e) ≡ isUnaccepted e
-  go fault h = refl
-  go unaccepted h = refl
-  go (link p) h = absurd (false≢true (sym (h .0)))
-  go (section b r) h = absurd (false≢true (sym (h .1)))
-  go (page b r) h = refl
+-- entries that are accepted, and that the unmap is for, are taken
+module _ (s : Store) (p i : ℕ) where
+  abbrev entries : Level → ℕ → Entry
+  entries v k = tableEntry v s p (i + k)
 
-pub all-taken : (f : Form) (s : Store) (p i : ℕ) → any (mappingWords f) (λ k. isUnaccepted (tableEntry (level f) s p (i + k))) ≡ false
-    → any (mappingWords f) (λ k. not (takes f (tableEntry (level f) s p (i + k)))) ≡ false
-all-taken f s p i none =
-    let entry : ℕ → Entry = λ k. tableEntry (level f) s p (i + k) in
-    any-same (λ k. not (takes f (entry k))) (λ k. isUnaccepted (entry k)) (mappingWords f) (λ k l. taken-unless f (s .memory) (wordIndex s p (i + k))) ∙ none
+  pub all-taken : (f : Form) → misaligned i (mappingWords f) ≡ false → any (mappingWords f) (λ k. isUnaccepted (entries (level f) k)) ≡ false
+      → forAnother f (tableEntry (level f) s p i) ≡ false → any (mappingWords f) (λ k. not (takes f (entries (level f) k))) ≡ false
+  unfolding takes forAnother any isFault isUnaccepted isLink isSection isPage isLarge
+  all-taken sections aligned none own = go (entries l1 0) (l1-no-page (s .memory) (wordIndex s p (i + 0))) none where
+    go : (e : Entry) → (isPage e ≡ false) × (isLarge e ≡ false) → isUnaccepted e ≡ false → not (isFault e || isSection e || isLink e) ≡ false
+    go fault h u = refl
+    go unaccepted h u = absurd (false≢true (sym u))
+    go (link p) h u = refl
+    go (section b r) h u = refl
+    go (page b r) h u = absurd (false≢true (sym (h .0)))
+    go (large b r) h u = absurd (false≢true (sym (h .1)))
+  all-taken pages aligned none own = go (entries l2 0) (l2-no-link (s .memory) (wordIndex s p (i + 0))) none (rw (← add-zero i) at own) where
+    go : (e : Entry) → (isLink e ≡ false) × (isSection e ≡ false) → isUnaccepted e ≡ false → isLarge e ≡ false → not (isFault e || isPage e) ≡ false
+    go fault h u n = refl
+    go unaccepted h u n = absurd (false≢true (sym u))
+    go (link p) h u n = absurd (false≢true (sym (h .0)))
+    go (section b r) h u n = absurd (false≢true (sym (h .1)))
+    go (page b r) h u n = refl
+    go (large b r) h u n = absurd (false≢true (sym n))
+  all-taken larges aligned none own =
+      let (b, q, _, each) = large-run (s .memory) (wordIndex s p i) (word-aligned larges s p i aligned) (not-false (isLarge (tableEntry l2 s p i)) own) in
+      any-avoids (λ k. not (isLarge (entries l2 k))) (mappingWords larges) (λ k l. rw (ap (entryAt l2 (s .memory)) (sym (add-assoc (blockWords * (p - base s)) i k)) ∙ each k l) refl)
 
 module _ {h : Told} {s : Store} (r : Running h s) where
   -- an entry that may stand in a table
@@ -82,29 +90,33 @@ module _ {h : Told} {s : Store} (r : Running h s) where
     rs : List Refusal
     rs = freeRefusals v s p
 
-  pub unmap-sound : (f : Form) (p i : ℕ) → (answerOf (unmapRefusals f s p i) ≢ 8) × (answerOf (unmapRefusals f s p i) ≢ 10)
-  unmap-sound f p i = (
-    middle-avoided 8 (take 7 rs) (any (mappingWords f) (λ k. not (takes f (entry k)))) (drop 8 rs) (λ e. omega arith) (omega arith)
-        (λ t.
-        let t2 = rest t in
-        let t3 = rest (rest t2) in
-        let t4 = rest t3 in
-        all-taken f s p i (none-unaccepted v p (now t2) (now (rest t4)) (mappingWords f) (λ k. i + k) (in-table (now t3) (now t4)))) (omega arith),
-    middle-avoided 10 (take 8 rs) (any (mappingWords f) (λ k. astray (base s) (blocks s) (entry k))) (drop 9 rs) (λ e. omega arith) (omega arith)
-        (λ t.
-        let t2 = rest t in
-        let t3 = rest (rest t2) in
-        let t4 = rest t3 in
-        none-astray v p (now t2) (now (rest t4)) (mappingWords f) (λ k. i + k) (in-table (now t3) (now t4))) (omega arith),
-  ) where
-    rs : List Refusal
+  -- what passed the first tests of an unmap
+  module _ (f : Form) (p i : ℕ) where
+    abbrev rs : List Refusal
     rs = unmapRefusals f s p i
 
-    v : Level
-    v = level f
+    abbrev entry : ℕ → Entry
+    entry k = tableEntry (level f) s p (i + k)
 
-    entry : ℕ → Entry
-    entry k = tableEntry v s p (i + k)
+    in-table : misaligned i (mappingWords f) ≡ false → beyondTable (level f) i ≡ false → (k : ℕ) → k < mappingWords f → i + k < tableEntries (level f)
+    in-table t3 t4 k l = omega (arith, leb-false (tableEntries (level f)) i t4, words-in-block f i t3)
 
-    in-table : misaligned i (mappingWords f) ≡ false → beyondTable v i ≡ false → (k : ℕ) → k < mappingWords f → i + k < tableEntries v
-    in-table t3 t4 k l = omega (arith, leb-false (tableEntries v) i t4, words-in-block f i t3)
+    own-taken : forAnother f (tableEntry (level f) s p i) ≡ false → answerOf rs ≢ 8
+    own-taken own =
+        middle-avoided 8 (take 7 rs) (any (mappingWords f) (λ k. not (takes f (entry k)))) (drop 8 rs) (λ e. omega arith) (omega arith)
+        (λ t.
+        let t2 = rest t in
+        let t3 = rest (rest t2) in
+        let t4 = rest t3 in
+        all-taken s p i f (now t3) (none-unaccepted (level f) p (now t2) (now (rest t4)) (mappingWords f) (λ k. i + k) (in-table (now t3) (now t4))) own) (omega arith)
+
+    pub unmap-sound : (answerOf rs ≢ 10) × (answerOf rs ≡ 8 → forAnother f (tableEntry (level f) s p i) ≡ true)
+    unmap-sound = (
+      middle-avoided 10 (take 8 rs) (any (mappingWords f) (λ k. astray (base s) (blocks s) (entry k))) (drop 9 rs) (λ e. omega arith) (omega arith)
+          (λ t.
+          let t2 = rest t in
+          let t3 = rest (rest t2) in
+          let t4 = rest t3 in
+          none-astray (level f) p (now t2) (now (rest t4)) (mappingWords f) (λ k. i + k) (in-table (now t3) (now t4))) (omega arith),
+      λ e. true-unless (forAnother f (tableEntry (level f) s p i)) (λ own. own-taken own e),
+    )

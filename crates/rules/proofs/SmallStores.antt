@@ -1,18 +1,19 @@
 -- Small stores on which answers can be computed: eight blocks of zeros but for a word, and a ledger of zeros but for a record's word.
-use mathlib.Core.Bool.{true, false}
+use mathlib.Core.Bool.{Bool, true, false}
 use mathlib.Core.List.{List, []}
 use mathlib.Core.Logic.{⊎-elim}
-use mathlib.Core.Path.{_≡_, refl, _∙_, ap}
+use mathlib.Core.Path.{_≡_, refl, sym, _∙_, ap}
 use Prim.Native.Nat.{ℕ, _+_, _*_, _^_, _<_, _≤_}
+use native.Mathlib.Decide.{ℕ-discrete}
 use native.Mathlib.Omega.{arith}
 use lib.ListN.{length, getD, replicate, length-replicate, getD-replicate, List·getD-eq-default}
 use Rattle.words.specs.Bounded.{any}
 use Rattle.words.specs.Words.{word, putWord}
 use Rattle.words.proofs.Bounded.{below-or-above}
-use Rattle.words.proofs.Words.{length-putWord, word-putWord-same}
+use Rattle.words.proofs.Words.{length-putWord, word-putWord-same, word-putWord-other}
 use Rattle.signature.specs.Signed.{signed, listed}
-use Rattle.entries.specs.Entries.{fault, Level, l1, l2, entryAt, l1Entry, l2Entry}
-use Rattle.entries.proofs.Decoding.{entryAt-putWord-other}
+use Rattle.entries.specs.Entries.{fault, Level, l1, l2, entryAt, l1Entry, l2Entry, isRun}
+use Rattle.entries.proofs.Decoding.{l2Entry-alone, isRun-broken, entryAt-fault}
 use Rattle.rules.specs.Store.{blockBytes, ledgerHeadBytes, ledgerRecordBytes, Store, recordWord, putRecordWord, retype, typeWord, counterWord, writable, misfit}
 use Rattle.rules.specs.Signature.{signedBlock}
 use Rattle.rules.specs.Tables.{typeCode}
@@ -31,11 +32,6 @@ memory w = putWord (zeros (blockBytes * 8)) 0 w
 pub length-memory : (w : ℕ) → length (memory w) ≡ blockBytes * 8
 unfolding memory
 length-memory w = length-putWord (zeros (blockBytes * 8)) 0 w ∙ length-zeros (blockBytes * 8)
-
--- the first word as an entry
-pub first-entry : (w : ℕ) → w < 2 ^ 32 → (entryAt l1 (memory w) 0 ≡ l1Entry w) × (entryAt l2 (memory w) 0 ≡ l2Entry w)
-unfolding memory entryAt
-first-entry w h = let e = word-putWord-same (zeros (blockBytes * 8)) 0 w (rw (length-zeros (blockBytes * 8)) (omega arith)) h in (ap l1Entry e, ap l2Entry e)
 
 -- a ledger of zeros: B and active are 0, all blocks are D
 abbrev pub ledger : List ℕ
@@ -68,17 +64,37 @@ word-zeros n a = rw (getD-zeros n a, getD-zeros n (a + 1), getD-zeros n (a + 2),
   getD-zeros : (n i : ℕ) → getD {A = ℕ} (replicate n 0) i 0 ≡ 0
   getD-zeros n i = ⊎-elim (λ (h : i < n). getD-replicate n i 0 0 h) (λ (h : n ≤ i). List·getD-eq-default (replicate n 0) 0 {n = i} (rw (length-replicate {A = ℕ} n 0) h)) (below-or-above i n)
 
+-- every entry of zeros is a fault
+pub zero-entry : (v : Level) (n i : ℕ) → entryAt v (zeros n) i ≡ fault
+zero-entry v n i = sym (entryAt-fault v (zeros n) i (rw (word-zeros n (4 * i)) refl))
+
+-- the first word, and every other
+first-word : (w : ℕ) → w < 2 ^ 32 → word (memory w) 0 ≡ w
+unfolding memory
+first-word w h = word-putWord-same (zeros (blockBytes * 8)) 0 w (rw (length-zeros (blockBytes * 8)) (omega arith)) h
+
+rest-word : (w i : ℕ) → 0 < i → word (memory w) (4 * i) ≡ 0
+unfolding memory
+rest-word w i h = word-putWord-other (zeros (blockBytes * 8)) 0 w (4 * i) (λ e. omega arith) ∙ word-zeros (blockBytes * 8) (4 * i)
+
+-- the first word as an entry: no run begins with it
+pub first-entry : (w : ℕ) → w < 2 ^ 32 → (entryAt l1 (memory w) 0 ≡ l1Entry w) × (entryAt l2 (memory w) 0 ≡ l2Entry false 0 w)
+unfolding entryAt
+first-entry w h = (ap l1Entry (first-word w h), ap (l2Entry (isRun (memory w) 0) 0) (first-word w h) ∙ go (ℕ-discrete w 0)) where
+  go : Dec (w ≡ 0) → l2Entry (isRun (memory w) 0) 0 w ≡ l2Entry false 0 w
+  go (yes z) = l2Entry-alone w (isRun (memory w) 0) false 0 0 (λ one. omega arith)
+  go (no n) = ap (λ (run : Bool). l2Entry run 0 w) (isRun-broken (memory w) 0 1 (omega arith) (λ e. n (sym (first-word w h) ∙ sym e ∙ rest-word w 1 (omega arith))))
+
 -- every entry but the first is a fault
 pub rest-entry : (v : Level) (w i : ℕ) → 0 < i → entryAt v (memory w) i ≡ fault
-unfolding memory entryAt l1Entry l2Entry
-rest-entry v w i h = entryAt-putWord-other v (zeros (blockBytes * 8)) 0 i w (λ e. omega arith) ∙ go v where
-  go : (v : Level) → entryAt v (zeros (blockBytes * 8)) i ≡ fault
-  go l1 = rw (word-zeros (blockBytes * 8) (4 * i)) refl
-  go l2 = rw (word-zeros (blockBytes * 8) (4 * i)) refl
+rest-entry v w i h = sym (entryAt-fault v (memory w) i (rw (rest-word w i h) refl))
+
+pub zero-record : (n k b : ℕ) → recordWord (replicate n 0) k b ≡ 0
+unfolding zeros recordWord
+zero-record n k b = word-zeros n (ledgerHeadBytes + ledgerRecordBytes * b + 4 * k)
 
 pub record-zeros : (k b : ℕ) → recordWord ledger k b ≡ 0
-unfolding zeros recordWord
-record-zeros k b = word-zeros (ledgerHeadBytes + ledgerRecordBytes * 8) (ledgerHeadBytes + ledgerRecordBytes * b + 4 * k)
+record-zeros = zero-record (ledgerHeadBytes + ledgerRecordBytes * 8)
 
 -- nothing is signed by an empty golden image
 pub unsigned : (mem : List ℕ) (B p : ℕ) → signedBlock [] B mem p ≡ false

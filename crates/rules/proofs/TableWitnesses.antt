@@ -12,7 +12,7 @@ use Rattle.words.specs.Bounded.{above, neqb, any, num}
 use Rattle.words.specs.Words.{word, putWord}
 use Rattle.words.proofs.Bounded.{below-or-above, any-none, any-hit, any-avoids}
 use Rattle.signature.specs.Signed.{misfitImage}
-use Rattle.entries.specs.Entries.{Entry, fault, page, l1, l2, entryAt, l2Entry, isPageForm, isUnaccepted, isLink, rights, placeFirst, coverFirst, placeBlocks, coverBlocks, covers}
+use Rattle.entries.specs.Entries.{Entry, fault, unaccepted, page, l1, l2, entryAt, l2Entry, isPageForm, isLargeForm, isUnaccepted, isLink, rights, placeFirst, coverFirst, placeBlocks, coverBlocks, covers}
 use Rattle.entries.specs.Rights.{mayRead, mayWrite, mayExecute, rightsOf}
 use Rattle.entries.specs.Rights.{write, allows}
 use Rattle.rules.specs.Refusals.{answerOf}
@@ -106,12 +106,17 @@ unfolding someCount someCounter
 create-from-8 w led l based type c d =
     create-from-6 w led l based type (past (one-block 0 (λ b. someCounter (λ c. above (counter c (smallStore w led) b) 0)) ∙ rw (based, c .0, c .1, c .2) refl) d)
 
-create-8 : answerOf (createRefusals l2 [] (smallStore 1 ledger) 0) ≡ 8
-unfolding word recordWord l2Entry isPageForm isUnaccepted
-create-8 = create-from-8 1 ledger refl refl refl (refl, refl, refl) (here (some-entry 1 ledger refl isUnaccepted (ap isUnaccepted (first-entry 1 (omega arith) .1))))
+-- a first word that is not accepted: 0x101, which is of no form, and 0x1002D, which has the form of a large page and stands alone
+create-unaccepted : (w : ℕ) → w < 2 ^ 32 → l2Entry false 0 w ≡ unaccepted → answerOf (createRefusals l2 [] (smallStore w ledger) 0) ≡ 8
+unfolding word recordWord isUnaccepted
+create-unaccepted w h is = create-from-8 w ledger refl refl refl (refl, refl, refl) (here (some-entry w ledger refl isUnaccepted (ap isUnaccepted (first-entry w h .1 ∙ is))))
+
+create-8 : (answerOf (createRefusals l2 [] (smallStore 0x101 ledger) 0) ≡ 8) × (answerOf (createRefusals l2 [] (smallStore 0x1002D ledger) 0) ≡ 8)
+unfolding l2Entry isPageForm isLargeForm
+create-8 = (create-unaccepted 0x101 (omega arith) refl, create-unaccepted 0x1002D (omega arith) refl)
 
 create-10 : answerOf (createRefusals l2 [] (smallStore 0x6403F ledger) 0) ≡ 10
-unfolding word recordWord l2Entry isPageForm isUnaccepted misplaced unfitLink unfitWrite astray outside coverFirst placeFirst coverBlocks placeBlocks
+unfolding word recordWord l2Entry isPageForm isLargeForm isUnaccepted misplaced unfitLink unfitWrite astray outside coverFirst placeFirst coverBlocks placeBlocks
 create-10 =
     let w : ℕ = 0x6403F in
     let e = first-entry w (omega arith) .1 in
@@ -120,7 +125,7 @@ create-10 =
     (here (some-entry w ledger refl (misplaced l2 (smallStore w ledger) 0) (rw (e, length-memory w) refl))))
 
 -- up to 10 nothing is held against a page in block 5
-create-from-11 : {k : ℕ} (w r : ℕ) → w < 2 ^ 32 → l2Entry w ≡ page 5 r → (led : List ℕ) → length led ≡ ledgerHeadBytes + ledgerRecordBytes * 8 → word led basePlace ≡ 0 → recordWord led typeWord 0 ≡ 0
+create-from-11 : {k : ℕ} (w r : ℕ) → w < 2 ^ 32 → l2Entry false 0 w ≡ page 5 r → (led : List ℕ) → length led ≡ ledgerHeadBytes + ledgerRecordBytes * 8 → word led basePlace ≡ 0 → recordWord led typeWord 0 ≡ 0
     → recordWord led typeWord 5 ≡ 0 → Uncounted led → Decides (drop 8 (createRefusals l2 [] (smallStore w led) 0)) k → answerOf (createRefusals l2 [] (smallStore w led) 0) ≡ k
 unfolding isUnaccepted misplaced unfitLink unfitWrite astray outside coverFirst placeFirst coverBlocks placeBlocks isLink grants allows rights
 create-from-11 w r h is led l based type free c d =
@@ -135,7 +140,7 @@ entries5 w led = tableEntry l2 (smallStore w led) 0
 
 -- block 5 is executable already
 create-11 : answerOf (createRefusals l2 [] (smallStore 0x503F (putRecordWord ledger (counterWord executable) 5 1)) 0) ≡ 11
-unfolding word putWord recordWord putRecordWord l2Entry isPageForm rightsOf mayRead mayWrite mayExecute num clash gives grants allows rights covers coverFirst placeFirst coverBlocks placeBlocks
+unfolding word putWord recordWord putRecordWord l2Entry isPageForm isLargeForm rightsOf mayRead mayWrite mayExecute num clash gives grants allows rights covers coverFirst placeFirst coverBlocks placeBlocks
 create-11 =
     let w : ℕ = 0x503F in
     let led = putRecordWord ledger (counterWord executable) 5 1 in
@@ -154,7 +159,7 @@ no-clash w x moreW moreX (inl e) = rw (e, and-false (above moreW 0 || above more
 no-clash w x moreW moreX (inr e) = rw e (and-false ((above moreW 0 || above moreX 0) && above (w + moreW) 0))
 
 create-12 : answerOf (createRefusals l2 [] (smallStore 0x502E ledger) 0) ≡ 12
-unfolding word recordWord l2Entry isPageForm rightsOf mayRead mayWrite mayExecute num gives grants allows rights covers coverFirst placeFirst coverBlocks placeBlocks
+unfolding word recordWord l2Entry isPageForm isLargeForm rightsOf mayRead mayWrite mayExecute num gives grants allows rights covers coverFirst placeFirst coverBlocks placeBlocks
 create-12 =
     let w : ℕ = 0x502E in
     let e = first-entry w (omega arith) .1 in
@@ -167,7 +172,7 @@ create-12 =
 
 -- block 5's w is at the limit already
 create-13 : answerOf (createRefusals l2 [] (smallStore 0x503F (putRecordWord ledger (counterWord writable) 5 counterLimit)) 0) ≡ 13
-unfolding word putWord recordWord putRecordWord l2Entry isPageForm rightsOf mayRead mayWrite mayExecute num gives grants allows rights covers coverFirst placeFirst coverBlocks placeBlocks someOverrun someCounter overruns endsBelow endValue
+unfolding word putWord recordWord putRecordWord l2Entry isPageForm isLargeForm rightsOf mayRead mayWrite mayExecute num gives grants allows rights covers coverFirst placeFirst coverBlocks placeBlocks someOverrun someCounter overruns endsBelow endValue
 create-13 =
     let w : ℕ = 0x503F in
     let led = putRecordWord ledger (counterWord writable) 5 counterLimit in
@@ -217,11 +222,11 @@ unfolding outside word recordWord putRecordWord putWord retype inUse
 free-6-active = decides (past (fit 0 oneL1 refl) (past (rw (length-memory 0) refl) (past refl (past (rw four-blocks refl) (here refl)))))
 
 free-8 : answerOf (freeRefusals l2 (smallStore 1 oneL2) 0) ≡ 8
-unfolding word recordWord putRecordWord putWord inUse l2Entry isPageForm isUnaccepted
+unfolding word recordWord putRecordWord putWord inUse l2Entry isPageForm isLargeForm isUnaccepted
 free-8 = free-from-6 1 oneL2 refl refl refl (past refl (here (some-entry 1 oneL2 refl isUnaccepted (ap isUnaccepted (first-entry 1 (omega arith) .1)))))
 
 free-10 : answerOf (freeRefusals l2 (smallStore 0x6403F oneL2) 0) ≡ 10
-unfolding word recordWord putRecordWord putWord inUse l2Entry isPageForm isUnaccepted astray outside coverFirst placeFirst coverBlocks placeBlocks
+unfolding word recordWord putRecordWord putWord inUse l2Entry isPageForm isLargeForm isUnaccepted astray outside coverFirst placeFirst coverBlocks placeBlocks
 free-10 =
     let w : ℕ = 0x6403F in
     let e = first-entry w (omega arith) .1 in
@@ -231,7 +236,7 @@ free-10 =
     (here (some-entry w oneL2 refl (astray 0 (blocks (smallStore w oneL2))) (rw (e, length-memory w) refl)))))
 
 -- up to 10 nothing is held against a page in block 5
-free-from-13 : {k : ℕ} (w r : ℕ) → w < 2 ^ 32 → l2Entry w ≡ page 5 r → (led : List ℕ) → length led ≡ ledgerHeadBytes + ledgerRecordBytes * 8 → word led basePlace ≡ 0 → recordWord led typeWord 0 ≡ typeCode l2
+free-from-13 : {k : ℕ} (w r : ℕ) → w < 2 ^ 32 → l2Entry false 0 w ≡ page 5 r → (led : List ℕ) → length led ≡ ledgerHeadBytes + ledgerRecordBytes * 8 → word led basePlace ≡ 0 → recordWord led typeWord 0 ≡ typeCode l2
     → recordWord led (counterWord linked) 0 ≡ 0 → Decides (drop 7 (freeRefusals l2 (smallStore w led) 0)) k → answerOf (freeRefusals l2 (smallStore w led) 0) ≡ k
 unfolding inUse isUnaccepted astray outside coverFirst placeFirst coverBlocks placeBlocks
 free-from-13 w r h is led l based type free d =
@@ -243,7 +248,7 @@ free-from-13 w r h is led l based type free d =
 
 -- a counter of 0 that falls, and one that stays above the limit
 free-13-below : answerOf (freeRefusals l2 (smallStore 0x503F oneL2) 0) ≡ 13
-unfolding word recordWord putRecordWord putWord l2Entry isPageForm rightsOf mayRead mayWrite mayExecute num gives grants allows rights covers coverFirst placeFirst coverBlocks placeBlocks someOverrun someCounter overruns endsBelow endValue
+unfolding word recordWord putRecordWord putWord l2Entry isPageForm isLargeForm rightsOf mayRead mayWrite mayExecute num gives grants allows rights covers coverFirst placeFirst coverBlocks placeBlocks someOverrun someCounter overruns endsBelow endValue
 free-13-below =
     let w : ℕ = 0x503F in
     let more = gives-some w oneL2 refl writable 5 (ap (λ (x : Entry). gives writable x 5) (first-entry w (omega arith) .1)) in
@@ -251,7 +256,7 @@ free-13-below =
     free-from-13 w 3 (omega arith) refl oneL2 refl refl refl refl (here (rw (length-memory w) (fifth _ (rw (lt-ltb 0 W more) refl))))
 
 free-13-above : answerOf (freeRefusals l2 (smallStore 0x503F (writesTo5 (2 ^ 31))) 0) ≡ 13
-unfolding word recordWord putRecordWord putWord l2Entry isPageForm rightsOf mayRead mayWrite mayExecute num gives grants allows rights covers coverFirst placeFirst coverBlocks placeBlocks someOverrun someCounter overruns endsBelow endValue
+unfolding word recordWord putRecordWord putWord l2Entry isPageForm isLargeForm rightsOf mayRead mayWrite mayExecute num gives grants allows rights covers coverFirst placeFirst coverBlocks placeBlocks someOverrun someCounter overruns endsBelow endValue
 free-13-above =
     let w : ℕ = 0x503F in
     let led = writesTo5 (2 ^ 31) in

@@ -10,7 +10,7 @@ use borrow.Author.Tests.{lt-ltb}
 use Rattle.words.specs.Words.{bits}
 use Rattle.words.proofs.Bounded.{among-in}
 use Rattle.words.proofs.Fields.{bits-bound}
-use Rattle.entries.specs.Entries.{Entry, fault, unaccepted, link, section, page, Level, l1, l2, entryAt, isFault, isUnaccepted, isLink, rights, placeFirst, coverFirst, placeBlocks, coverBlocks, covers, blockTables}
+use Rattle.entries.specs.Entries.{Entry, fault, unaccepted, link, section, page, large, Level, l1, l2, entryAt, isFault, isUnaccepted, isLink, rights, placeFirst, coverFirst, placeBlocks, coverBlocks, covers, blockTables}
 use Rattle.entries.proofs.Covers.{cover-low, cover-high, cover-some}
 use Rattle.rules.specs.Store.{blockBytes, blockWords, Store, blocks, base, linked}
 use Rattle.rules.specs.Tables.{typeCode, gives, grants, astray, l2Words}
@@ -41,6 +41,7 @@ place-above unaccepted u f = absurd (false≢true (sym u))
 place-above (link p) u f = omega arith
 place-above (section b r) u f = omega arith
 place-above (page b r) u f = omega arith
+place-above (large b r) u f = omega arith
 
 -- an entry that is no fault covers blocks of the region
 pub cover-within : (B n : ℕ) (e : Entry) → 0 < placeBlocks e → astray B n e ≡ false → (B ≤ coverFirst e) × (coverFirst e + coverBlocks e ≤ B + n)
@@ -136,6 +137,7 @@ module _ {h : Told} {s : Store} (r : Running h s) (addr : ℕ) where
   onward j (link place) q l g f = through-link place g
   onward j (section b w) q l g f = at-end (base s) (blocks s) types tables l1 addr j (section b w) q l g f
   onward j (page b w) q l g f = at-end (base s) (blocks s) types tables l1 addr j (page b w) q l g f
+  onward j (large b w) q l g f = at-end (base s) (blocks s) types tables l1 addr j (large b w) q l g f
 
   -- a walk from an L1 table
   pub walk-sensible : (p : ℕ) → Root (base s) (blocks s) (h .types) p → Good (walk (base s) (blocks s) (s .memory) p addr)
@@ -155,6 +157,7 @@ module _ {h : Told} {s : Store} (r : Running h s) (addr : ℕ) where
     follow-same (link place) good = rw (same l2 (secondWord place) (second-word place good)) refl
     follow-same (section b w) good = refl
     follow-same (page b w) good = refl
+    follow-same (large b w) good = refl
 
     pub walk-same : (p : ℕ) → Root (base s) (blocks s) (h .types) p → walk (base s) (blocks s) mem p addr ≡ walk (base s) (blocks s) (s .memory) p addr
     unfolding walk

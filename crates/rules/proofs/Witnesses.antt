@@ -6,13 +6,12 @@ use native.Mathlib.Omega.{arith}
 use lib.ListN.{length}
 use Rattle.words.specs.Bounded.{any, sum, num}
 use Rattle.words.specs.Words.{word, putWord}
-use Rattle.words.proofs.Words.{length-putWord, word-putWord-same}
+use Rattle.words.proofs.Words.{length-putWord, word-putWord-same, word-putWord-other}
 use Rattle.signature.specs.Signed.{misfitImage}
-use Rattle.entries.specs.Entries.{l1, l2, entryAt, l1Entry, l2Entry, isLinkForm, isSectionForm, isPageForm, isFault, isUnaccepted, isLink, isSection, isPage, rights, placeFirst, coverFirst, placeBlocks, coverBlocks, covers}
+use Rattle.entries.specs.Entries.{l1, l2, entryAt, l1Entry, l2Entry, isRun, isLinkForm, isSectionForm, isPageForm, isLargeForm, isFault, isUnaccepted, isLink, isSection, isPage, rights, placeFirst, coverFirst, placeBlocks, coverBlocks, covers}
 use Rattle.entries.specs.Rights.{mayRead, mayWrite, mayExecute, rightsOf}
 use Rattle.entries.specs.Rights.{allows}
 use Rattle.entries.specs.Rights.{unlawfulRights}
-use Rattle.entries.proofs.Decoding.{entryAt-putWord-other}
 use Rattle.rules.specs.Refusals.{answerOf}
 use Rattle.rules.specs.Store.{blockBytes, counterLimit, basePlace, activePlace, Store, recordWord, putRecordWord, retype, typeWord, counterWord, executable, linked, someCounter, misfit, outside, someBlock}
 use Rattle.rules.specs.Outcomes.{settle}
@@ -28,7 +27,7 @@ use Rattle.rules.specs.Steps.{Step, begins, maps, links, unmaps, switche
 use Rattle.rules.proofs.SmallStores.{memory, length-memory, first-entry, ledger, smallStore, fit, unfit, oneL2, oneL1, writesTo5, unsigned}
 
 -- the answers of some steps, each taken in the same store
-answers : List ℕ → Store → List Step → List ℕ
+unfoldable pub answers : List ℕ → Store → List Step → List ℕ
 answers golden s steps = map (λ step. obey golden s step .answer) steps
 
 -- begin is accepted, so that lists start
@@ -68,7 +67,7 @@ number-7 = (
 
 -- the first word is 1: an L1 entry that is a link, an L2 entry that is not accepted
 number-8 : (answers [] (smallStore 1 oneL2) (maps pages 0 0 4 0 ∷ unmaps pages 0 0 ∷ []) ≡ (8 ∷ 8 ∷ [])) × (answers [] (smallStore 1 oneL1) (links 0 0 4 0 ∷ []) ≡ (8 ∷ []))
-unfolding answers obey linkOutcome mapOutcome unmapOutcome settle answerOf outside someBlock any recordWord putRecordWord word putWord retype misfitImage l1Entry l2Entry isLinkForm isPageForm isFault takes isSection isPage isLink
+unfolding answers obey linkOutcome mapOutcome unmapOutcome settle answerOf outside someBlock any recordWord putRecordWord word putWord retype misfitImage l1Entry l2Entry isLinkForm isPageForm isLargeForm isFault takes isSection isPage isLink
 number-8 =
     let (e1, e2) = first-entry 1 (omega arith) in
     (rw (fit 1 oneL2 refl, length-memory 1, e2) refl, rw (fit 1 oneL1 refl, length-memory 1, e1) refl)
@@ -84,7 +83,7 @@ number-12 = let (_, e) = first-entry 0 (omega arith) in rw (fit 0 oneL2 refl, le
 
 -- a link to a block outside, or to data; the removal of page 100
 number-10 : (answers [] (smallStore 0 oneL1) (links 0 0 8 0 ∷ links 0 0 4 0 ∷ []) ≡ (10 ∷ 10 ∷ [])) × (answers [] (smallStore 0x6403F oneL2) (unmaps pages 0 0 ∷ []) ≡ (10 ∷ []))
-unfolding answers obey linkOutcome unmapOutcome settle answerOf outside someBlock any recordWord putRecordWord word putWord retype l1Entry l2Entry isPageForm isFault takes isSection isPage isLink astray coverFirst placeFirst coverBlocks placeBlocks
+unfolding answers obey linkOutcome unmapOutcome settle answerOf outside someBlock any recordWord putRecordWord word putWord retype l1Entry l2Entry isPageForm isLargeForm isFault takes isSection isPage isLink astray coverFirst placeFirst coverBlocks placeBlocks
 number-10 =
     let (e, _) = first-entry 0 (omega arith) in
     let (_, f) = first-entry 0x6403F (omega arith) in
@@ -100,7 +99,7 @@ number-13-map = let (_, e) = first-entry 0 (omega arith) in rw (fit 0 (writesTo5
 number-13-unmap : (answers [] (smallStore 0x503F (writesTo5 0)) (unmaps pages 0 0 ∷ []) ≡ (13 ∷ []))
     × (answers [] (smallStore 0x503F (writesTo5 (counterLimit + 2))) (unmaps pages 0 0 ∷ []) ≡ (13 ∷ []))
     × (answers [] (smallStore 0x503F (writesTo5 (counterLimit + 1))) (unmaps pages 0 0 ∷ []) ≡ (0 ∷ []))
-unfolding answers obey unmapOutcome settle answerOf outside someBlock any sum num recordWord putRecordWord word putWord l2Entry isPageForm takes isSection isPage isLink astray someOverrun someCounter overruns endValue endsBelow gain gives grants allows rights rightsOf mayRead mayWrite mayExecute covers coverFirst placeFirst coverBlocks placeBlocks isFault
+unfolding answers obey unmapOutcome settle answerOf outside someBlock any sum num recordWord putRecordWord word putWord l2Entry isPageForm isLargeForm takes isSection isPage isLink astray someOverrun someCounter overruns endValue endsBelow gain gives grants allows rights rightsOf mayRead mayWrite mayExecute covers coverFirst placeFirst coverBlocks placeBlocks isFault
 number-13-unmap =
     let (_, e) = first-entry 0x503F (omega arith) in (
       rw (fit 0x503F (writesTo5 0) refl, length-memory 0x503F, e) refl,
@@ -137,13 +136,13 @@ length-two : length twoWords ≡ blockBytes * 8
 unfolding twoWords
 length-two = length-putWord (memory 1) (4 * 5) 0x1F ∙ length-memory 1
 
-entries-two : (entryAt l1 twoWords 0 ≡ l1Entry 1) × (entryAt l2 twoWords 5 ≡ l2Entry 0x1F)
+entries-two : (entryAt l1 twoWords 0 ≡ l1Entry 1) × (entryAt l2 twoWords 5 ≡ l2Entry (isRun twoWords 5) 5 0x1F)
 unfolding twoWords entryAt
 entries-two = (
-  entryAt-putWord-other l1 (memory 1) 5 0 0x1F (λ e. omega arith) ∙ first-entry 1 (omega arith) .0,
-  ap l2Entry (word-putWord-same (memory 1) (4 * 5) 0x1F (rw (length-memory 1) (omega arith)) (omega arith)),
+  ap l1Entry (word-putWord-other (memory 1) (4 * 5) 0x1F (4 * 0) (λ e. omega arith)) ∙ first-entry 1 (omega arith) .0,
+  ap (l2Entry (isRun twoWords 5) 5) (word-putWord-same (memory 1) (4 * 5) 0x1F (rw (length-memory 1) (omega arith)) (omega arith)),
 )
 
 number-23 : answers [] (record { memory = twoWords; ledger = ledger }) (accesses reads 0x5000 ∷ []) ≡ (23 ∷ [])
-unfolding answers obey guestOutcome settle answerOf misfit outside word walk passes follow walkRefusals needed allows l1Entry l2Entry isLinkForm isPageForm rightsOf mayRead mayWrite mayExecute num isFault isUnaccepted astray coverFirst placeFirst coverBlocks placeBlocks rights
+unfolding answers obey guestOutcome settle answerOf misfit outside word walk passes follow walkRefusals needed allows l1Entry l2Entry isLinkForm isPageForm isLargeForm rightsOf mayRead mayWrite mayExecute num isFault isUnaccepted astray coverFirst placeFirst coverBlocks placeBlocks rights
 number-23 = let (e, f) = entries-two in rw (length-two, e, f) refl

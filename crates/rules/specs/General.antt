@@ -13,7 +13,7 @@ use Rattle.rules.specs.Tables.{typeD, typeCode, tableBlocks, tableEntrie
 abbrev pub tableOutside : Level → Store → ℕ → Bool
 tableOutside v s p = outside (base s) (blocks s) p (tableBlocks v)
 
--- refusal 3, map 3, guest 21: p is no multiple of m
+-- refusal 3, map 3, unmap 3, guest 21: p is no multiple of m
 abbrev pub misaligned : ℕ → ℕ → Bool
 misaligned p m = neqb (p % m) 0
 

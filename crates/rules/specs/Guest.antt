@@ -4,7 +4,7 @@ use mathlib.Core.List.{List, [], _∷_}
 use Prim.Native.Nat.{ℕ, _+_, _-_, _*_, _/_, _%_, _^_}
 use lib.ListN.{getD, set}
 use Rattle.words.specs.Words.{bits}
-use Rattle.entries.specs.Entries.{Entry, fault, unaccepted, link, section, page, Level, l1, l2, blockTables, entryAt, isFault, isUnaccepted, rights, coverFirst, coverBlocks}
+use Rattle.entries.specs.Entries.{Entry, fault, unaccepted, link, section, page, large, Level, l1, l2, blockTables, entryAt, isFault, isUnaccepted, rights, coverFirst, coverBlocks}
 use Rattle.rules.specs.Refusals.{Refusal, _if_, answerOf}
 use Rattle.rules.specs.Store.{blockBytes, blockWords, Store, blocks, base, active, misfit}
 use Rattle.rules.specs.Outcomes.{Outcome, Accepted, settle}
@@ -36,6 +36,7 @@ follow B n memory addr unaccepted = endsAt l1 addr unaccepted
 follow B n memory addr (link place) = let e = secondEntry B memory addr place in passes l2 B n e (endsAt l2 addr e)
 follow B n memory addr (section b r) = endsAt l1 addr (section b r)
 follow B n memory addr (page b r) = endsAt l1 addr (page b r)
+follow B n memory addr (large b r) = endsAt l1 addr (large b r)
 
 -- guest walk: the walk of an address from the L1 table at a physical block; outside the region this says nothing, and 21 comes first
 unfoldable pub walk : ℕ → ℕ → List ℕ → ℕ → ℕ → Walk

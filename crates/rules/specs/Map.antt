@@ -1,4 +1,4 @@
--- Map L1 and map L2: a section or a page is entered (RULES: map, refusal).
+-- Map L1, map L2 and map large: a section, a page or a large page is entered (RULES: map, refusal).
 use mathlib.Core.Bool.{Bool, not, _&&_, _||_}
 use mathlib.Core.List.{List, [], _∷_, _++_}
 use Prim.Native.Nat.{ℕ}
@@ -29,7 +29,7 @@ clashingTarget f s t r =
 unfoldable pub unsignedTarget : Form → List ℕ → Store → ℕ → ℕ → Bool
 unsignedTarget f golden s t r = allows r execute && someBlock t (targetBlocks f) (λ b. not (signedBlock golden (base s) (s .memory) b))
 
--- map list, map 3, map 9: 3 if table or target is misaligned (the third, of the index, never applies: a mapping is one word); 9 for unlawful rights
+-- map list, map 3, map 9: 3 if table, target or index is misaligned; 9 for unlawful rights
 abbrev pub mapRefusals : Form → List ℕ → Store → ℕ → ℕ → ℕ → ℕ → List Refusal
 mapRefusals f golden s p i t r =
     1 if misfit s (base s)

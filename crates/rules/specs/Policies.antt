@@ -1,16 +1,16 @@
 -- What walks grant, from every table to which a switch is accepted (RULES: policies).
-use mathlib.Core.Bool.{true, false}
+use mathlib.Core.Bool.{Bool, true, false, not}
 use mathlib.Core.List.{List, [], _∷_}
 use mathlib.Core.Logic.{_⊎_, _≢_}
 use mathlib.Core.Option.{some}
 use mathlib.Core.Path.{_≡_}
 use Prim.Native.Nat.{ℕ, suc, _+_, _-_, _*_, _%_, _≤_, _<_}
 use lib.ListN.{getD, getElem?}
-use Rattle.entries.specs.Entries.{page, Level, l2, entryAt}
+use Rattle.entries.specs.Entries.{Entry, page, Level, l2, entryAt, isLarge}
 use Rattle.rules.specs.Store.{blockBytes, blockWords, Store, blocks, writable, executable}
 use Rattle.rules.specs.Signature.{contents, signedBlock}
 use Rattle.signature.specs.Signed.{misfitImage}
-use Rattle.rules.specs.Tables.{typeCode, tableEntries, Form, pages}
+use Rattle.rules.specs.Tables.{typeCode, tableEntries, Form, sections, pages, larges, level}
 use Rattle.entries.specs.Rights.{Right, write, execute, allows}
 use Rattle.rules.specs.Begin.{beginOutcome}
 use Rattle.rules.specs.Switch.{switchOutcome}
@@ -90,6 +90,12 @@ pub record WritableByOneEntry (h : Told) (s : Store) (p i t : ℕ) : Type 0 wher
 abbrev pub thereAndBack : ℕ → ℕ → ℕ → List Step
 thereAndBack p i t = unmaps pages p i ∷ maps pages p i t 5 ∷ unmaps pages p i ∷ maps pages p i t 3 ∷ []
 
+-- policies 8: the entry is none that this unmap is for: unmap L2 meets an entry of a large page, unmap large any other
+unfoldable pub forAnother : Form → Entry → Bool
+forAnother sections e = false
+forAnother pages e = isLarge e
+forAnother larges e = not (isLarge e)
+
 -- Lists of steps, from the store s that a begin with B left
 
 module _ (golden : List ℕ) (B : ℕ) (s : Store) (steps : List Step) where
@@ -105,6 +111,11 @@ module _ (golden : List ℕ) (B : ℕ) (s : Store) (steps : List Step) where
   -- policies 8: wherever the list has this step, it is answered neither 8 nor 10
   abbrev pub MeetsSoundEntries : Step → Type 0
   MeetsSoundEntries step = (i k : ℕ) → getElem? steps i ≡ some step → getElem? (run golden s steps .answers) i ≡ some k → (k ≢ 8) × (k ≢ 10)
+
+  -- policies 8: wherever the list has this unmap, it is not answered 10, and 8 only at an entry that it is not for
+  abbrev pub MeetsItsEntries : Form → ℕ → ℕ → Type 0
+  MeetsItsEntries f p j = (i k : ℕ) → getElem? steps i ≡ some (unmaps f p j) → getElem? (run golden s steps .answers) i ≡ some k
+      → (k ≢ 10) × (k ≡ 8 → forAnother f (entryAt (level f) (storeAt golden s steps i .memory) (blockWords * (p - toldAt golden B s steps i .B) + j)) ≡ true)
 
   -- policies 1, policies 2, policies 3, policies 4, policies 5, policies 6, policies 7, policies 8, policies 9: all of these, of one list
   pub record Policies : Type 0 where
@@ -123,9 +134,9 @@ module _ (golden : List ℕ) (B : ℕ) (s : Store) (steps : List Step) where
     pub fetched : (i addr byte : ℕ) → getElem? steps i ≡ some (accesses fetches addr)
         → getElem? (run golden s steps .answers) i ≡ some 0 → getElem? (run golden s steps .bytes) i ≡ some byte
         → FetchedCode (toldAt golden B s steps i) (storeAt golden s steps i) addr byte
-    -- policies 8: no entry is held against a free or an unmap
+    -- policies 8: no entry is held against a free, and against an unmap only that it is not for it
     pub free-sound : (v : Level) (p : ℕ) → MeetsSoundEntries (frees v p)
-    pub unmap-sound : (f : Form) (p j : ℕ) → MeetsSoundEntries (unmaps f p j)
+    pub unmap-sound : (f : Form) (p j : ℕ) → MeetsItsEntries f p j
     -- policies 9: the four calls are accepted, if the image's length is lawful
     pub in-turn : misfitImage golden ≡ false → (p j t : ℕ) → Always (λ h now. WritableByOneEntry h now p j t → run golden now (thereAndBack p j t) .answers ≡ (0 ∷ 0 ∷ 0 ∷ 0 ∷ []))
 

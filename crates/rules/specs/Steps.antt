@@ -18,7 +18,7 @@ use Rattle.rules.specs.Unmap.{unmapOutcome}
 use Rattle.rules.specs.Switch.{switchOutcome}
 use Rattle.rules.specs.Guest.{Access, guestOutcome}
 
--- lists 1: one of the fourteen calls, with any arguments; the accesses are the guest steps
+-- lists 1: one of the sixteen calls, with any arguments; the accesses are the guest steps
 pub data Step : Type 0 where
   begins : ℕ → Step
   creates : Level → ℕ → Step

@@ -4,7 +4,7 @@ use mathlib.Core.List.{List}
 use Prim.Native.Nat.{ℕ, _+_, _-_, _*_}
 use lib.Dec.{eqb}
 use Rattle.words.specs.Bounded.{above, count}
-use Rattle.entries.specs.Entries.{Entry, fault, section, page, Level, l1, l2, sectionBlocks, entryAt, isFault, isLink, isSection, isPage, rights, placeFirst, placeBlocks, covers}
+use Rattle.entries.specs.Entries.{Entry, fault, section, page, large, Level, l1, l2, sectionBlocks, largeBlocks, runWords, entryAt, isFault, isLink, isSection, isPage, isLarge, rights, placeFirst, placeBlocks, covers}
 use Rattle.entries.specs.Rights.{write, execute, allows}
 use Rattle.rules.specs.Store.{blockWords, Store, base, Counter, writable, executable, linked, outside}
 
@@ -30,35 +30,41 @@ tableEntries v = blockWords * tableBlocks v
 abbrev pub l2Words : ℕ
 l2Words = 256
 
--- entries 7, entries 8: what a map enters: a section in an L1 table, or a page in an L2 block
+-- entries 7, entries 8, entries 20: what a map enters: a section in an L1 table, a page in an L2 block, or a large page there
 pub data Form : Type 0 where
   sections : Form
   pages : Form
+  larges : Form
 
--- entries 7, entries 8: the level at which a form stands
+-- entries 7, entries 8, entries 20: the level at which a form stands
 abbrev pub level : Form → Level
 level sections = l1
 level pages = l2
+level larges = l2
 
 -- map target, map 3: how many blocks a target has; its first has to be a multiple of that
 abbrev pub targetBlocks : Form → ℕ
 targetBlocks sections = sectionBlocks
 targetBlocks pages = 1
+targetBlocks larges = largeBlocks
 
--- map leaves, unmap leaves: the words that a mapping takes; its index has to be a multiple of their number, which is 1 and so asks nothing
+-- map leaves, unmap leaves, map 3, unmap 3: the words that a mapping takes; its index has to be a multiple of their number
 abbrev pub mappingWords : Form → ℕ
 mappingWords sections = 1
 mappingWords pages = 1
+mappingWords larges = runWords
 
 -- map leaves: the entry of word k of the mapping of target t with rights r
 abbrev pub mapping : Form → ℕ → ℕ → ℕ → Entry
 mapping sections t r k = section t r
 mapping pages t r k = page t r
+mapping larges t r k = large (t + k) r
 
--- unmap 8: the entry is one that this unmap takes: any accepted one, since no L1 entry is a page and no L2 entry a link or a section
+-- unmap 8: the entry is one that this unmap takes: unmap L1 any accepted one, unmap L2 a fault or a page, unmap large an entry of a large page
 unfoldable pub takes : Form → Entry → Bool
 takes sections e = isFault e || isSection e || isLink e
 takes pages e = isFault e || isPage e
+takes larges e = isLarge e
 
 -- ledger 5: word j of the memory as an entry of a block of type t; a fault, which counts nowhere, if t is no table's
 unfoldable pub typedEntry : ℕ → List ℕ → ℕ → Entry

@@ -1,4 +1,4 @@
--- Unmap L1 and unmap L2: an entry is taken away (RULES: unmap, refusal).
+-- Unmap L1, unmap L2 and unmap large: a mapping is taken away (RULES: unmap, refusal).
 use mathlib.Core.Bool.{not}
 use mathlib.Core.List.{List, [], _∷_}
 use Prim.Native.Nat.{ℕ, _+_}
@@ -11,7 +11,7 @@ use Rattle.rules.specs.Outcomes.{Outcome, callOutcome}
 use Rattle.rules.specs.Tables.{typeCode, tableBlocks, Form, level, mappingWords, takes, wordIndex, tableEntry, astray}
 use Rattle.rules.specs.General.{tableOutside, misaligned, beyondTable, otherType, executableHolder, someOverrun, recounted, removed}
 
--- unmap list, unmap 8, unmap 10: the second 3, of the index, never applies (a mapping is one word); 8 and 10 are about the entry at the index
+-- unmap list, unmap 3, unmap 8, unmap 10: the second 3 is of the index; 8 and 10 are about the entries of the mapping's words
 abbrev pub unmapRefusals : Form → Store → ℕ → ℕ → List Refusal
 unmapRefusals f s p i =
     1 if misfit s (base s)
@@ -26,7 +26,7 @@ unmapRefusals f s p i =
     ∷ 13 if someOverrun removed s (mappingWords f) (λ k. tableEntry (level f) s p (i + k))
     ∷ []
 
--- unmap leaves: the word is 0, and the entry that it was is taken from the counters
+-- unmap leaves: the words are 0, and the entries that they were are taken from the counters
 abbrev pub unmapAfter : Form → Store → ℕ → ℕ → Store
 unmapAfter f s p i =
     record { memory = fill (s .memory) (wordIndex s p i) (mappingWords f) (λ k. wordOf cacheable fault); ledger = recounted removed s (mappingWords f) (λ k. tableEntry (level f) s p (i + k)) }

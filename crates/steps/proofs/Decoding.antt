@@ -15,11 +15,11 @@ use Rattle.steps.specs.Records.{calls, stepOf, recordBytes, short, unmar
 pub next-above : {m n : ℕ} → m < n → (n ≡ suc m → ⊥) → suc m < n
 next-above l h = omega arith
 
-pub unlisted : (call a b c d : ℕ) → (0 < call → 14 < call) → none ≡ stepOf call a b c d
+pub unlisted : (call a b c d : ℕ) → (0 < call → 16 < call) → none ≡ stepOf call a b c d
 unfolding stepOf
 unlisted zero a b c d h = refl
 unlisted (suc n) a b c d h =
-    let l : 14 < suc n = h (omega arith) in
+    let l : 16 < suc n = h (omega arith) in
     sym (List·getD-eq-default (calls a b c d) none {n = suc n} l)
 
 -- a record that is neither short nor unmarked is whole

@@ -1,12 +1,12 @@
 -- What the values of the enums in the code mean: a step, and what a record holds (RULES: forms, lists, runner).
 use mathlib.Core.Option.{Option, none, some}
 use Rattle.entries.specs.Entries.{l1, l2}
-use Rattle.rules.specs.Tables.{sections, pages}
+use Rattle.rules.specs.Tables.{sections, pages, larges}
 use Rattle.rules.specs.Guest.{reads, writes, fetches}
 use Rattle.rules.specs.Steps as steps
 use Rattle.rules.specs.Steps.{begins, creates, frees, maps, links, unmaps, switches, accesses}
 use Rattle.steps.specs.declared.step.Step as step
-use Rattle.steps.specs.declared.step.Step.the-variants.{Begin, CreateL1, CreateL2, FreeL1, FreeL2, MapL1, MapL2, Link, UnmapL1, UnmapL2, Switch, Read, Write, Fetch}
+use Rattle.steps.specs.declared.step.Step.the-variants.{Begin, CreateL1, CreateL2, FreeL1, FreeL2, MapL1, MapL2, Link, UnmapL1, UnmapL2, Switch, Read, Write, Fetch, MapLarge, UnmapLarge}
 use Rattle.steps.specs.declared.records.Record as lists
 use Rattle.steps.specs.declared.records.Record.the-variants.{Holds, Bad}
 
@@ -26,6 +26,8 @@ meaning (Switch block) = switches block
 meaning (Read address) = accesses reads address
 meaning (Write address byte) = accesses (writes byte) address
 meaning (Fetch address) = accesses fetches address
+meaning (MapLarge block index target rights) = maps larges block index target rights
+meaning (UnmapLarge block index) = unmaps larges block index
 
 -- forms 9, runner 1: the step that a record holds, if any
 abbrev pub held : lists.Record → Option steps.Step

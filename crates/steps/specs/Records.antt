@@ -8,7 +8,7 @@ use Rattle.words.specs.Bounded.{above, neqb}
 use Rattle.words.specs.Words.{word}
 use Rattle.entries.specs.Entries.{l1, l2}
 use Rattle.rules.specs.Store.{Store}
-use Rattle.rules.specs.Tables.{sections, pages}
+use Rattle.rules.specs.Tables.{sections, pages, larges}
 use Rattle.rules.specs.Guest.{reads, writes, fetches}
 use Rattle.rules.specs.Steps.{Step, begins, creates, frees, maps, links, unmaps, switches, accesses, Run, run}
 
@@ -30,6 +30,8 @@ calls a b c d =
     ∷ some (accesses reads a)
     ∷ some (accesses (writes b) a)
     ∷ some (accesses fetches a)
+    ∷ some (maps larges a b c d)
+    ∷ some (unmaps larges a b)
     ∷ []
 
 -- program 3: the step of a call byte and four words; none for a call byte that is not in the table

@@ -47,6 +47,8 @@ fn step_of(call: u8, a: u32, b: u32, c: u32, d: u32) -> Record
         12 => Record::Holds(Step::Read(a)),
         13 => Record::Holds(Step::Write(a, b)),
         14 => Record::Holds(Step::Fetch(a)),
+        15 => Record::Holds(Step::MapLarge(a, b, c, d)),
+        16 => Record::Holds(Step::UnmapLarge(a, b)),
         _ => Record::Bad,
     }
 }

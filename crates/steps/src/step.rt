@@ -25,6 +25,9 @@ pub enum Step {
     // Address and byte.
     Write(u32, u32),
     Fetch(u32),
+    // As MapL2 and UnmapL2.
+    MapLarge(u32, u32, u32, u32),
+    UnmapLarge(u32, u32),
 }
 
 // A step's answer and the byte that it gives, 0 where it gives none.
@@ -117,5 +120,20 @@ pub fn obey(step: Step, memory: &mut [u8], ledger: &mut [u8], golden: &[u8]) -> 
         Step::Read(address) => read(memory, ledger, address),
         Step::Write(address, byte) => only(monitor::pagemon_write(memory, ledger, address, byte)),
         Step::Fetch(address) => fetch(memory, ledger, address),
+        Step::MapLarge(block, index, target, rights) => only(monitor::pagemon_map_large(
+            memory,
+            ledger,
+            golden,
+            block,
+            index,
+            target,
+            rights,
+        )),
+        Step::UnmapLarge(block, index) => only(monitor::pagemon_unmap_large(
+            memory,
+            ledger,
+            block,
+            index,
+        )),
     }
 }

@@ -2,18 +2,18 @@
 use mathlib.Core.Bool.{false}
 use mathlib.Core.List.{List}
 use mathlib.Core.Path.{_≡_}
-use Prim.Native.Nat.{ℕ, _+_, _*_, _<_, _≤_}
+use Prim.Native.Nat.{ℕ, _+_, _*_, _%_, _<_, _≤_}
 use lib.ListN.{length}
 use Rattle.words.specs.Words.{word}
-use Rattle.entries.specs.Entries.{Entry, Level, coverFirst, coverBlocks}
+use Rattle.entries.specs.Entries.{Entry, Level, runWords, coverFirst, coverBlocks}
 use Rattle.rules.specs.Store.{basePlace, lent, blocks, base}
 use Rattle.rules.specs.Tables.{astray}
 use Rattle.ledger.specs.Needs.{InLedger, Fits, recordOf}
 use Rattle.validation.specs.Tests.{entryFrom}
 
--- calls 1: the m words from word j on lie in the memory
+-- calls 1, entries 21: the m words from word j on lie in the memory, a multiple of sixteen words long: so do the aligned sixteen around each
 abbrev pub HoldsWords : List ℕ → ℕ → ℕ → Type 0
-HoldsWords memory j m = 4 * (j + m) ≤ length memory
+HoldsWords memory j m = (4 * (j + m) ≤ length memory) × (length memory % (4 * runWords) ≡ 0)
 
 -- ledger 1: the ledger has a record for each block that the entry covers
 abbrev pub CoverRecorded : List ℕ → Entry → Type 0

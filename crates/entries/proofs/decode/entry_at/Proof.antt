@@ -1,4 +1,5 @@
 -- `entries::decode::entry_at` meets its contract: bits 1..0 tell a fault at both levels.
+use native.Mathlib.Omega.{arith}
 use borrow.Author.Needs.{needs}
 use Rattle.entries.specs.Meaning.{levelOf}
 use Rattle.entries.proofs.Decoding.{entryAt-fault}
@@ -10,10 +11,5 @@ returns c =
     let a = c .before .before .before .before .args in
     entryAt-fault (levelOf (a .level)) (a .mem .now) (a .j) (rw (c .before .bits .ensures, c .before .before .word .ensures) at (c .if1 .taken))
 
-returns-2 : tie.Need-returns-2
-returns-2 c =
-    let a = c .before .before .before .before .before .args in
-    c .entry-of .ensures (a .mem .now) (a .j) (c .before .before .before .word .ensures)
-
 pub entry-at-spec : {M : Type 1} → statement M
-entry-at-spec = tie.close (tie.spec (search needs) (search needs) (search needs) returns (search needs) returns-2)
+entry-at-spec = tie.close (tie.spec (λ c. omega arith) (λ c κs. omega arith) (search needs) returns (search needs) (λ c. c .entry-of .ensures))

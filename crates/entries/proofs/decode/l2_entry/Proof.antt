@@ -1,27 +1,30 @@
 -- `entries::decode::l2_entry` meets its contract: its tests are those of the definition, in their order.
-use mathlib.Core.Path.{ap₂, sym, _∙_}
+use mathlib.Core.Path.{sym, _∙_, ap₂}
 use borrow.Author.Needs.{needs}
-use borrow.Author.Tests.{ne-eqb}
-use Rattle.entries.specs.Entries.{l2Entry, page}
-use Rattle.entries.proofs.Decoding.{l2Entry-page}
+use Rattle.entries.specs.Entries.{l2, page}
+use Rattle.entries.proofs.Decoding.{entryAt-fault, entryAt-page}
 use Rattle.entries.proofs.decode.l2_entry.Statement.{statement}
 use Rattle.entries.proofs.decode.l2_entry.Tie as tie
 
 returns : tie.Need-returns
-unfolding l2Entry
-returns c = rw (← c .before .bits .ensures, c .if1 .taken)
+returns c =
+    let start = c .before .before .before in
+    entryAt-fault l2 (start .args .mem .now) (start .args .j) (rw (c .before .bits .ensures, start .pre .1) at (c .if1 .taken))
+
+page-mapping-requires : tie.Need-page-mapping-requires
+page-mapping-requires c κs = sym (c .before .is-page-form .ensures) ∙ c .if2 .taken
 
 returns-2 : tie.Need-returns-2
 returns-2 c =
+    let start = c .before .before .before .before .before .before in
     let form = sym (c .before .before .is-page-form .ensures) ∙ c .before .if2 .taken in
-    ap₂ page (c .page-mapping .ensures .0) (c .page-mapping .ensures .1) ∙ sym (l2Entry-page (c .before .before .before .before .before .args .w) form)
+    ap₂ page (c .page-mapping .ensures .0) (c .page-mapping .ensures .1) ∙ entryAt-page (start .args .mem .now) (start .args .j) (start .args .w) (start .pre .1) form
 
-returns-3 : tie.Need-returns-3
-unfolding l2Entry
-returns-3 c =
-    rw (← c .before .before .before .bits .ensures, ne-eqb _ _ (c .before .before .if1 .left), ← c .before .is-page-form .ensures, c .if2 .left)
+large-entry-requires : tie.Need-large-entry-requires
+large-entry-requires c κs =
+    (c .before .before .before .before .before .pre, ((λ z. c .before .before .if1 .left (c .before .before .before .bits .ensures ∙ z)), sym (c .before .is-page-form .ensures) ∙ c .if2 .left))
 
 pub l2-entry-spec : {M : Type 1} → statement M
 l2-entry-spec =
     tie.close
-    (tie.spec (search needs) returns (search needs) (λ c κs. sym (c .before .is-page-form .ensures) ∙ c .if2 .taken) returns-2 returns-3)
+    (tie.spec (search needs) returns (search needs) page-mapping-requires returns-2 large-entry-requires (λ c. c .large-entry .ensures))

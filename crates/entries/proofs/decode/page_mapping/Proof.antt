@@ -6,12 +6,12 @@ use borrow.Author.Needs.{needs}
 use Rattle.words.proofs.Fields.{bits-low}
 use Rattle.entries.specs.Rights.{rightsOf}
 use Rattle.entries.specs.Entries.{pageAP, pageXN}
-use Rattle.entries.proofs.Decoding.{pageForm-bit, pageCode-form}
+use Rattle.entries.proofs.Decoding.{pageForm-bit, pageCode-word, wordCode-page-form}
 use Rattle.entries.proofs.decode.page_mapping.Statement.{statement}
 use Rattle.entries.proofs.decode.page_mapping.Tie as tie
 
 number : (c : tie.After-page-rights-at) → c .page-rights-at .result ≡ 8 + rightsOf (pageAP (c .before .before .args .w)) (pageXN (c .before .before .args .w))
-number c = rw (c .before .bits .ensures) at (c .page-rights-at .ensures) ∙ pageCode-form (c .before .before .args .w) (c .before .before .pre)
+number c = rw (c .before .bits .ensures) at (c .page-rights-at .ensures) ∙ (pageCode-word (c .before .before .args .w) (pageForm-bit (c .before .before .args .w) (c .before .before .pre)) ∙ wordCode-page-form (c .before .before .args .w) (c .before .before .pre))
 
 page-rights-at-requires : tie.Need-page-rights-at-requires
 page-rights-at-requires c κs =

@@ -14,6 +14,8 @@ is-section-spec =
     (search needs)
     (search needs)
     (search needs)
+    (search needs)
+    (λ c. search needs)
     (λ c. search needs)
     (λ c. search needs)
     (λ c. search needs)

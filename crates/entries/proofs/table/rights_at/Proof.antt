@@ -5,12 +5,12 @@ use Rattle.words.specs.Lists.{tabulate}
 use Rattle.words.specs.Bounded.{num}
 use Rattle.words.proofs.Lists.{getD-tabulate}
 use Rattle.entries.specs.Rights.{mayRead, mayWrite, mayExecute, rightsOf}
-use Rattle.entries.specs.Entries.{l2Entry, isPageForm, codeOf, pageCode}
+use Rattle.entries.specs.Entries.{l2Entry, isPageForm, isLargeForm, codeOf, wordCode, pageCode}
 use Rattle.entries.proofs.table.rights_at.Statement.{statement}
 use Rattle.entries.proofs.table.rights_at.Tie as tie
 
 returns : tie.Need-returns
-unfolding tabulate pageCode codeOf l2Entry isPageForm rightsOf mayRead mayWrite mayExecute num
+unfolding tabulate pageCode wordCode codeOf l2Entry isPageForm isLargeForm rightsOf mayRead mayWrite mayExecute num
 returns c = getD-tabulate pageCode 1024 (c .args .low) (c .pre)
 
 pub rights-at-spec : {M : Type 1} → statement M

@@ -37,9 +37,10 @@ unfolding mapOutcome
 returns-2 c =
     let start = c .before .before .before .before .before .before .before .before .before .before .before .before .before .before .before .before .before .before in
     let a = start .args in
+    let target = map-target (formOf (a .form)) (a .golden .now) (store start) (a .request .block) (a .request .index) (a .request .target) (a .request .rights) (sym (c .before .before .before .before .before .before .before .before .before .before .before .map-refusal .ensures) ∙ c .before .before .before .before .before .before .before .before .before .before .if1 .left) in
     let counted = (rw (c .before .before .before .before .before .before .before .before .before .before .before .before .before .before .mapping .ensures, c .before .before .before .before .before .target-blocks .ensures .is) at (c .before .before .before .before .write-entries .ensures .1)) _ _ (mapping-spreads (formOf (a .form)) (a .request .target) (a .request .rights)) in
     leaves-accepted _ _ _ (c .before .before .before .before .before .before .before .before .before .before .before .map-refusal .ensures) (c .before .before .before .before .before .before .before .before .before .before .if1 .left)
-    (map-memory (formOf (a .form)) (a .golden .now) (store start) (a .request .block) (a .request .index) (a .request .target) (a .request .rights) (c .before .before .before .before .before .before .before .before .before .mapping-word .ensures) (c .before .before .before .before .before .before .mapping-words .ensures .is) (c .before .before .before .before .write-entries .ensures .0))
+    (map-memory (formOf (a .form)) (a .golden .now) (store start) (a .request .block) (a .request .index) (a .request .target) (a .request .rights) (target .1) (c .before .before .before .before .before .before .before .before .before .mapping-word .ensures) (c .before .before .before .before .before .before .mapping-words .ensures .is) (c .before .before .before .before .write-entries .ensures .0))
     counted
 
 pub map-spec : {M : Type 1} → statement M

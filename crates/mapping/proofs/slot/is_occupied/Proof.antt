@@ -23,6 +23,9 @@ abbrev μ-loop : tie.MeasureT-loop
 word-index-requires : tie.Need-word-index-requires Inv-loop μ-loop
 word-index-requires c κs = let sl = c .before .before .pre in let f = fits _ _ (sl .fits) in (omega arith, sl .low, omega arith)
 
+entry-at-requires : tie.Need-entry-at-requires Inv-loop μ-loop
+entry-at-requires c κs = let f = fits _ _ (c .before .before .before .before .before .pre .fits) in omega arith
+
 -- the entry that is looked at
 looked-at : (v : Level) (mem led : List ℕ) (p i k : ℕ) {j : ℕ} {e : Entry} {t : Bool} → j ≡ blockWords * (p - base (lent mem led)) + i → e ≡ entryAt v mem (j + k) → t ≡ isFault e
     → t ≡ isFault (tableEntry v (lent mem led) p (i + k))
@@ -44,5 +47,5 @@ loop-again c =
 pub is-occupied-spec : {M : Type 1} → statement M
 is-occupied-spec =
     tie.close
-    (tie.spec Inv-loop μ-loop word-index-requires (λ c. scan-start _ _) (λ c. omega arith) (λ c κs. omega arith) (λ c κs. tt) returns (λ c. omega arith)
+    (tie.spec Inv-loop μ-loop word-index-requires (λ c. scan-start _ _) (λ c. omega arith) entry-at-requires (λ c κs. tt) returns (λ c. omega arith)
     (λ c. omega arith) loop-again (λ c. scan-end _ _ _ (c .before .loop .inv) (omega arith)))

@@ -5,7 +5,7 @@ use Prim.Native.Nat.{ℕ}
 use borrow.Author.Needs.{needs}
 use Rattle.rules.specs.Store.{Store}
 use Rattle.rules.specs.Steps.{Step, obey}
-use Rattle.monitor.specs.Calls.{Called, pagemon-begin, pagemon-create-l1, pagemon-create-l2, pagemon-free-l1, pagemon-free-l2, pagemon-map-l1, pagemon-map-l2, pagemon-link, pagemon-unmap-l1, pagemon-unmap-l2, pagemon-switch, pagemon-read, pagemon-fetch, pagemon-write}
+use Rattle.monitor.specs.Calls.{Called, pagemon-begin, pagemon-create-l1, pagemon-create-l2, pagemon-free-l1, pagemon-free-l2, pagemon-map-l1, pagemon-map-l2, pagemon-map-large, pagemon-link, pagemon-unmap-l1, pagemon-unmap-l2, pagemon-unmap-large, pagemon-switch, pagemon-read, pagemon-fetch, pagemon-write}
 use Rattle.monitor.proofs.Calls.{called-obeys}
 use Rattle.steps.proofs.step.obey.Statement.{statement}
 use Rattle.steps.proofs.step.obey.Tie as tie
@@ -81,10 +81,26 @@ returns-13 c =
 returns-14 : tie.Need-returns-14
 returns-14 c = let e = c .fetch .ensures in rw (c .before .before .before .before .step14 .given .1) (called-obeys (pagemon-fetch (e .0) (e .1 .0) (e .1 .1)))
 
+returns-15 : tie.Need-returns-15
+returns-15 c =
+    let e = c .before .before .before .before .before .pagemon-map-large .ensures in
+    rw (c .before .before .before .before .before .before .before .before .before .step15 .given .1) (only-obeys (pagemon-map-large (e .0) (e .1)) (c .only13 .ensures))
+
+returns-16 : tie.Need-returns-16
+returns-16 c =
+    let e = c .before .before .before .before .before .pagemon-unmap-large .ensures in
+    rw (c .before .before .before .before .before .before .before .before .before .step16 .given .1) (only-obeys (pagemon-unmap-large (e .0) (e .1)) (c .only14 .ensures))
+
 pub obey-spec : {M : Type 1} → statement M
 obey-spec =
     tie.close
     (tie.spec
+    (search needs)
+    (search needs)
+    (search needs)
+    (search needs)
+    (search needs)
+    (search needs)
     (search needs)
     (search needs)
     (search needs)
@@ -166,4 +182,10 @@ obey-spec =
     returns-13
     (search needs)
     (search needs)
-    returns-14)
+    returns-14
+    (search needs)
+    (search needs)
+    returns-15
+    (search needs)
+    (search needs)
+    returns-16)
