@@ -24,7 +24,9 @@
  *
  * Numbers. A block is named by its physical number, address / 4096. The region is the n blocks from B on; B is a multiple of
  * PAGEMON_SECTION_BLOCKS, and B + n at most 2^20. An L1 table has four blocks from a multiple of 4 on, and 4,096 entries. An L2 block has
- * four L2 tables of 256 entries: entry e of table t has the index 256 * t + e. The holder of an entry is the block in which its word lies.
+ * four L2 tables of 256 entries: entry e of table t has the index 256 * t + e. The holder of an entry is the block in which its word lies. A
+ * large page is PAGEMON_LARGE_BLOCKS blocks from a multiple of 16 on, by one word that stands in sixteen entries of an L2 block from a
+ * multiple of 16 on; each of these counts on one of the blocks, the first entry on the first.
  */
 #ifndef PAGEMON_H
 #define PAGEMON_H
@@ -41,6 +43,7 @@ extern "C" {
 #define PAGEMON_MIN_BLOCKS 8u              /* fewest blocks of a region */
 #define PAGEMON_MAX_BLOCKS 4096u           /* most blocks of a region */
 #define PAGEMON_SECTION_BLOCKS 256u        /* blocks of a section; B and section targets are multiples of it */
+#define PAGEMON_LARGE_BLOCKS 16u           /* blocks of a large page, and its entries; its target and its index are multiples of it */
 #define PAGEMON_L1_BLOCKS 4u               /* blocks of an L1 table */
 #define PAGEMON_L1_ENTRIES 4096u           /* entries of an L1 table */
 #define PAGEMON_L2_ENTRIES 1024u           /* entries of an L2 block: four tables of 256 */
@@ -73,12 +76,14 @@ enum {
     PAGEMON_ACCEPTED = 0,            /* accepted */
     PAGEMON_MISFIT = 1,              /* the length of memory or ledger, or B, is not lawful; in create and map also the golden image's length */
     PAGEMON_OUTSIDE_REGION = 2,      /* the block, or one of an L1 table's four, lies outside the region */
-    PAGEMON_MISALIGNED = 3,          /* an L1 table's block is no multiple of 4, or a section's target none of 256 */
+    PAGEMON_MISALIGNED = 3,          /* an L1 table's block is no multiple of 4, a section's target none of 256, or a large page's index or target
+                                        none of 16 */
     PAGEMON_BEYOND_TABLE = 4,        /* the table has no such index; in link also a table above 3 */
     PAGEMON_WRONG_TYPE = 5,          /* the block, or one of an L1 table's four, has another type than the call needs */
     PAGEMON_IN_USE = 6,              /* create: a block has a counter above 0; free: the table is active (L1) or linked (L2) */
     PAGEMON_EXECUTABLE_HOLDER = 7,   /* the holder has x above 0 */
-    PAGEMON_WRONG_ENTRY = 8,         /* map, link: no fault stands at the index; create, free, unmap: an entry is not accepted */
+    PAGEMON_WRONG_ENTRY = 8,         /* map, link: no fault stands at the index, or at one of sixteen; create, free, unmap: an entry is not
+                                        accepted; unmap L2: it is one of a large page; unmap large: the sixteen are not one large page */
     PAGEMON_UNLAWFUL_RIGHTS = 9,     /* the rights are above 7, or hold write or execute and not read */
     PAGEMON_UNFIT_TARGET = 10,       /* a part of a target, or of an entry's place, lies outside the region; link, create: a link to a block that is not L2;
                                         map, create: a block to be written is no data, or one of the new table; map: the holder would be executed */
@@ -123,6 +128,13 @@ uint32_t pagemon_map_l2(uint8_t *memory, size_t memory_length, uint8_t *ledger, 
                         size_t golden_length, uint32_t block, uint32_t index, uint32_t target, uint32_t rights);
 
 /*
+ * Maps the large page of 16 blocks from `target` at the sixteen entries from `index` of the L2 block, all of which must be faults. Refusals: 1,
+ * 2, 3, 4, 5, 7, 8, 9, 10, 11, 12, 13. Writes the sixteen words in memory and the counters of the 16 blocks in the ledger.
+ */
+uint32_t pagemon_map_large(uint8_t *memory, size_t memory_length, uint8_t *ledger, size_t ledger_length, const uint8_t *golden,
+                           size_t golden_length, uint32_t block, uint32_t index, uint32_t target, uint32_t rights);
+
+/*
  * Links L2 table `table` (0 to 3) of the L2 block `target` at `index` of the L1 table, where a fault entry must stand. Refusals: 1, 2, 3, 4, 5,
  * 7, 8, 10, 13. Writes the entry's word in memory and the target's l in the ledger.
  */
@@ -130,11 +142,17 @@ uint32_t pagemon_link(uint8_t *memory, size_t memory_length, uint8_t *ledger, si
                       uint32_t target, uint32_t table);
 
 /*
- * Takes away the entry at `index` of the table. Refusals: 1, 2, 3 (L1), 4, 5, 7, 8, 10, 13. Writes 0 over the entry's word in memory, also
- * where a fault stood, and lowers the counters of what the entry gave in the ledger.
+ * Takes away the entry at `index` of the table, which must not be one of a large page. Refusals: 1, 2, 3 (L1), 4, 5, 7, 8, 10, 13. Writes 0
+ * over the entry's word in memory, also where a fault stood, and lowers the counters of what the entry gave in the ledger.
  */
 uint32_t pagemon_unmap_l1(uint8_t *memory, size_t memory_length, uint8_t *ledger, size_t ledger_length, uint32_t block, uint32_t index);
 uint32_t pagemon_unmap_l2(uint8_t *memory, size_t memory_length, uint8_t *ledger, size_t ledger_length, uint32_t block, uint32_t index);
+
+/*
+ * Takes away the large page at the sixteen entries from `index` of the L2 block; sixteen faults are none. Refusals: 1, 2, 3, 4, 5, 7, 8, 10, 13.
+ * Writes 0 over the sixteen words in memory, and lowers the counters of the 16 blocks in the ledger.
+ */
+uint32_t pagemon_unmap_large(uint8_t *memory, size_t memory_length, uint8_t *ledger, size_t ledger_length, uint32_t block, uint32_t index);
 
 /* Makes the L1 table at `block` the active one. Refusals: 1, 2, 3, 5. Writes the ledger's active word. */
 uint32_t pagemon_switch(const uint8_t *memory, size_t memory_length, uint8_t *ledger, size_t ledger_length, uint32_t block);

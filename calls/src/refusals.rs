@@ -19,6 +19,8 @@ pub const BLOCK_OUTSIDE: Refusal = refusal(2, "the block is outside the region")
 
 pub const MISALIGNED: Refusal = refusal(3, "the block is not a multiple of 4");
 pub const MISALIGNED_SECTION: Refusal = refusal(3, "the block is not a multiple of 4, or the target not of 256");
+pub const MISALIGNED_LARGE: Refusal = refusal(3, "the index or the target is not a multiple of 16");
+pub const MISALIGNED_INDEX: Refusal = refusal(3, "the index is not a multiple of 16");
 
 pub const BEYOND_TABLE: Refusal = refusal(4, "the index is too large");
 pub const BEYOND_TABLES: Refusal = refusal(4, "the index or the table is too large");
@@ -34,7 +36,11 @@ pub const LINKED: Refusal = refusal(6, "the block is linked");
 pub const EXECUTABLE_HOLDER: Refusal = refusal(7, "the holder is executable");
 
 pub const NO_FAULT: Refusal = refusal(8, "the entry is not a fault");
+pub const NO_FAULTS: Refusal = refusal(8, "one of the sixteen entries is not a fault");
 pub const UNACCEPTED_ENTRY: Refusal = refusal(8, "the entry is not of an accepted form");
+pub const NO_SMALL_ENTRY: Refusal =
+    refusal(8, "the entry is not of an accepted form, or is one of the sixteen of a large page");
+pub const NO_LARGE_PAGE: Refusal = refusal(8, "the sixteen entries are not those of one large page");
 pub const UNACCEPTED_ENTRIES: Refusal = refusal(8, "an entry is not of an accepted form");
 
 pub const UNLAWFUL_RIGHTS: Refusal = refusal(9, "the rights are above 7, or write or execute without read");
