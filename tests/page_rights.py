@@ -3,12 +3,13 @@
 
     python3 tests/page_rights.py > crates/rights_table/stdout
 
-Written from document 01 alone: it reads neither the table of the code nor the definitions of the proofs. Its steps have the clauses of docs/RULES.md.
+Written from documents 01 and 02 alone: it reads neither the table of the code nor the definitions of the proofs. Its steps have the clauses of
+docs/RULES.md.
 tests/tests/reference.rs compares what it writes with that file.
 """
 
 READ, WRITE, EXECUTE = 1, 2, 4
-FAULT, NOT_ACCEPTED, ACCEPTED = 0, 7, 8
+FAULT, WHOLE_WORD, NOT_ACCEPTED, ACCEPTED = 0, 6, 7, 8
 
 
 def bit(word, number):
@@ -19,9 +20,9 @@ def page_rights(index):
     # entries 5
     if bit(index, 1) == 0 and bit(index, 0) == 0:
         return FAULT
-    # entries 4: neither a fault nor a page
+    # entries 22: a large page, if it is one, is known by the whole word
     if bit(index, 1) == 0:
-        return NOT_ACCEPTED
+        return WHOLE_WORD
     # entries 8
     ap = f"{bit(index, 9)}{bit(index, 5)}{bit(index, 4)}"
     xn = bit(index, 0)

@@ -112,12 +112,12 @@ impl Outcomes for Seeded {
     }
 }
 
-/// Of a section's blocks, the first.
+/// Of some blocks, the first.
 fn first_of(blocks: Range<u64>) -> Range<u64> {
     blocks.start..blocks.end.min(blocks.start + 1)
 }
 
-/// Of a section's blocks, all but the last.
+/// Of several blocks, all but the last; of one, this one.
 fn but_last_of(blocks: Range<u64>) -> Range<u64> {
-    blocks.start..blocks.end - u64::from(blocks.end - blocks.start == 256)
+    blocks.start..blocks.end - u64::from(blocks.end - blocks.start > 1)
 }

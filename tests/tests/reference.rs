@@ -1,4 +1,4 @@
-//! The reference held against cases that the rules state outright: the numbers of entries 13 to 16, edges, and the ends of bounds.
+//! The reference held against cases that the rules state outright: the numbers of entries 13 to 16 and 22, edges, and the ends of bounds.
 use std::fs;
 use std::path::Path;
 use std::process::Command;
@@ -6,7 +6,7 @@ use std::rc::Rc;
 use tests::bytes::word;
 use tests::cases::scene::*;
 use tests::monitor::{Call, Given, Kind, Monitor, BLOCK, NO_TABLE};
-use tests::reference::entries::{page_number, Level};
+use tests::reference::entries::{page_number, page_rights, Level};
 use tests::reference::Reference;
 use tests::sha256::Sha256;
 use Kind::*;
@@ -19,7 +19,7 @@ fn answer(scene: &mut Scene, kind: Kind, arguments: &[u32]) -> u32 {
 fn twelve_page_rights() {
     let cases = [
         (0x3FC, 0x0),
-        (0x00D, 0x7),
+        (0x00D, 0x6),
         (0x20E, 0x7),
         (0x00F, 0x8),
         (0x01F, 0x8),
@@ -36,19 +36,26 @@ fn twelve_page_rights() {
     }
 }
 
-/// All 1,024 page codes, by entries 4 to 11.
+/// The page rights of all words of 16 bits, by entries 4 to 11 and 20, and the table's numbers, by entries 22.
 #[test]
 fn all_page_rights() {
-    for low in 0..1024 {
-        let ap = low >> 9 << 2 | low >> 4 & 3;
-        let number = match (low & 3, ap) {
-            (0, _) => 0,
-            (1, _) | (_, 0b100) => 7,
-            (_, 0b010 | 0b110 | 0b111) => 8 + 1 + 4 * u32::from(low & 1 == 0),
-            (_, 0b011) => 8 + 3 + 4 * u32::from(low & 1 == 0),
+    for word in 0..0x1_0000 {
+        let ap = word >> 7 & 4 | word >> 4 & 3;
+        let large = word & 3 == 1;
+        let execute = 4 * u32::from(if large { word < 0x8000 } else { word & 1 == 0 });
+        let rights = match ap {
+            _ if word & 3 == 0 => 0,
+            _ if large && word & 0x1C0 != 0 => 7,
+            0b100 => 7,
+            0b010 | 0b110 | 0b111 => 8 + 1 + execute,
+            0b011 => 8 + 3 + execute,
             _ => 8,
         };
-        assert_eq!(page_number(low), number, "low bits {low:#x}");
+        assert_eq!(page_rights(word), rights, "the word {word:#x}");
+        assert_eq!(page_rights(0xABCD_0000 | word), rights, "the word {word:#x} of another page");
+        if word < 1024 {
+            assert_eq!(page_number(word), if large { 6 } else { rights }, "index {word:#x}");
+        }
     }
 }
 
@@ -81,6 +88,12 @@ fn written_words() {
         assert_eq!(answer(&mut scene, MapL1, &[0x100, 4095, 0x200, rights]), 0);
         assert_eq!(scene.word(0, 4095), 0x0020_0000 + section);
     }
+    for (rights, low) in [(0, 0x801D), (1, 0x802D), (3, 0x803D), (5, 0x002D)] {
+        let mut scene = typed(32);
+        scene.store.golden = zero_digest().to_vec();
+        assert_eq!(answer(&mut scene, MapLarge, &[0x104, 32, 0x110, rights]), 0);
+        assert!((0..1024).all(|at| scene.word(4, at) == if at / 16 == 2 { 0x0011_0000 + low } else { 0 }));
+    }
     let mut scene = typed(16);
     assert_eq!(answer(&mut scene, Link, &[0x100, 2, 0x104, 3]), 0);
     assert_eq!(scene.word(0, 2), 0x0010_4C01);
@@ -101,6 +114,11 @@ fn indices() {
     for (index, expected) in [(1023, 0), (1024, 4)] {
         assert_eq!(answer(&mut typed(16), UnmapL2, &[0x104, index]), expected);
     }
+    for (index, expected) in [(0, 0), (1008, 0), (1009, 3), (1023, 3), (1024, 4), (1025, 3), (0xFFFF_FFF0, 4)] {
+        assert_eq!(answer(&mut typed(16), MapLarge, &[0x104, index, 0x100, 1]), expected);
+        let expected = if expected == 0 { 8 } else { expected };
+        assert_eq!(answer(&mut typed(16), UnmapLarge, &[0x104, index]), expected);
+    }
 }
 
 #[test]
@@ -118,6 +136,55 @@ fn a_section_counts_on_each_of_its_blocks() {
     assert!((0..256).all(|position| scene.record(position, W) == 0));
     assert_eq!(answer(&mut scene, UnmapL1, &[0x100, 0]), 0);
     assert!((0..512).all(|position| scene.record(position, W) == 0));
+}
+
+/// One more, one less: each entry of a large page counts on the block at its own position.
+#[test]
+fn a_large_page_counts_on_each_of_its_blocks() {
+    let mut scene = typed(48);
+    assert_eq!(answer(&mut scene, MapLarge, &[0x104, 16, 0x110, 3]), 0);
+    assert_eq!(answer(&mut scene, MapL2, &[0x104, 5, 0x11F, 3]), 0);
+    assert!((0..48).all(|at| scene.record(at, W) == u32::from((16..32).contains(&at)) + u32::from(at == 31)));
+    assert_eq!(answer(&mut scene, UnmapL2, &[0x104, 16]), 8);
+    assert_eq!(answer(&mut scene, UnmapLarge, &[0x104, 0]), 8);
+    assert_eq!(answer(&mut scene, UnmapLarge, &[0x104, 16]), 0);
+    assert!((0..48).all(|at| scene.record(at, W) == u32::from(at == 31)));
+    assert!((16..32).all(|index| scene.word(4, index) == 0));
+}
+
+/// A lone entry, fifteen equal ones, sixteen from an index that is no multiple of 16.
+#[test]
+fn a_large_page_is_sixteen_equal_words() {
+    for (from, to, other, expected) in [
+        (0, 16, 0, 0),
+        (0, 15, 0, 8),
+        (3, 4, 0, 8),
+        (0, 16, 1 << 12, 8),
+        (8, 24, 0, 8),
+        (248, 264, 0, 8),
+        (240, 272, 0, 0),
+    ] {
+        let mut scene = Scene::new(0x100, 16);
+        (from..to).for_each(|index| scene.put(8, index, scene.mapping(0, LARGE_READ)));
+        scene.put(8, to - 1, scene.word(8, to - 1) ^ other);
+        assert_eq!(answer(&mut scene, CreateL2, &[0x108]), expected, "{from} to {to}, then {other:#x}");
+    }
+}
+
+/// A walk ends in the entry's own block; a place that is outside in part is refused also where that block is inside.
+#[test]
+fn walks_through_a_large_page() {
+    for (blocks, expected) in [(32, 0), (20, 24)] {
+        let mut scene = typed(blocks);
+        scene.activate(0);
+        scene.put(0, 0, scene.link(4, 1));
+        scene.put_run(4, 256 + 240, scene.mapping(16, LARGE_READ));
+        (16..blocks).for_each(|position| scene.put_byte(position, 7, position as u8));
+        for (page, byte) in [(0xF0, 16), (0xF3, 19), (0xFF, 31)] {
+            let given = Reference::new().perform(Call::new(Read, &[page << 12 | 7]), &mut scene.store);
+            assert_eq!(given, Given { answer: expected, byte: if expected == 0 { byte } else { 0 } });
+        }
+    }
 }
 
 #[test]

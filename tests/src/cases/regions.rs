@@ -19,6 +19,9 @@ pub fn valid(kind: Kind, first: u32, blocks: usize) -> Case {
     scene.put(0, 0, scene.link(4, 0));
     scene.put(4, 0, scene.mapping(5, PAGE_WRITE));
     scene.put(4, 1, scene.mapping(6, PAGE_EXECUTE));
+    if kind == UnmapLarge {
+        scene.put_run(4, 32, scene.mapping(0, LARGE_READ));
+    }
     if kind != CreateL1 {
         scene.set_types(0..4, 1);
         scene.activate(0);
@@ -44,10 +47,17 @@ pub fn valid(kind: Kind, first: u32, blocks: usize) -> Case {
         Link => &[table, 9, page_table, 3],
         UnmapL1 => &[table, 0],
         UnmapL2 => &[page_table, 0],
+        MapLarge => &[page_table, 16, first, 1],
+        UnmapLarge => &[page_table, 32],
         Read | Write => &[0x123, 0x5A],
         Fetch => &[0x1FFF],
     };
-    let answer = if kind == MapL1 && blocks < 256 { 10 } else { 0 };
+    let needed = match kind {
+        MapL1 => 256,
+        MapLarge | UnmapLarge => 16,
+        _ => 0,
+    };
+    let answer = if blocks < needed { 10 } else { 0 };
     scene.expect(&format!("{blocks} blocks from {first:#x}"), kind, &arguments[..kind.arity()], answer)
 }
 

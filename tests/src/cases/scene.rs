@@ -17,6 +17,11 @@ pub const PAGE_READ: u32 = 0x02F;
 pub const PAGE_WRITE: u32 = 0x03F;
 pub const PAGE_EXECUTE: u32 = 0x02E;
 pub const PAGE_ALL: u32 = 0x03E;
+pub const LARGE_NONE: u32 = 0x801D;
+pub const LARGE_READ: u32 = 0x802D;
+pub const LARGE_WRITE: u32 = 0x803D;
+pub const LARGE_EXECUTE: u32 = 0x002D;
+pub const LARGE_ALL: u32 = 0x003D;
 pub const SECTION_NONE: u32 = 0x41E;
 pub const SECTION_READ: u32 = 0x81E;
 pub const SECTION_WRITE: u32 = 0xC1E;
@@ -76,6 +81,11 @@ impl Scene {
         put_word(own(&mut self.store.memory), BLOCK * position + 4 * index, word);
     }
 
+    /// The same word in sixteen entries.
+    pub fn put_run(&mut self, position: usize, index: usize, word: u32) {
+        (index..index + 16).for_each(|index| self.put(position, index, word));
+    }
+
     pub fn word(&self, position: usize, index: usize) -> u32 {
         word(&self.store.memory, BLOCK * position + 4 * index)
     }
@@ -86,7 +96,7 @@ impl Scene {
         }
     }
 
-    /// The word of a page or section at this block.
+    /// The word of a page, large page or section at this block.
     pub fn mapping(&self, position: usize, low: u32) -> u32 {
         (self.block(position) << 12) + low
     }

@@ -1,5 +1,6 @@
 //! RULES, entries: what a word of a table means, and what word is written.
-use std::ops::Range;
+use crate::monitor::Kind;
+use std::ops::{Range, RangeInclusive};
 
 #[derive(Clone, Copy, PartialEq, Eq, Debug)]
 pub enum Level {
@@ -43,14 +44,19 @@ pub struct Mapping {
     pub rights: Rights,
 }
 
-/// entries 4: four kinds, or not accepted.
+/// entries 4: five kinds, or not accepted.
 #[derive(Clone, Copy, PartialEq, Eq, Debug)]
 pub enum Entry {
     Fault,
     Unaccepted,
-    Link { block: u64, table: u32 },
+    Link {
+        block: u64,
+        table: u32,
+    },
     Section(Mapping),
     Page(Mapping),
+    /// One entry of a large page, and its position among the sixteen.
+    Large(Mapping, u64),
 }
 
 /// Blocks that must lie in the region.
@@ -71,10 +77,11 @@ pub fn bits(word: u32, high: u32, low: u32) -> u32 {
     word >> low & ((1 << (high - low + 1)) - 1)
 }
 
-pub fn decode(level: Level, word: u32) -> Entry {
+/// The entry at an index of a table that has these words.
+pub fn decode(level: Level, words: impl Fn(u32) -> u32, index: u32) -> Entry {
     match level {
-        Level::L1 => l1_entry(word),
-        Level::L2 => l2_entry(word),
+        Level::L1 => l1_entry(words(index)),
+        Level::L2 => l2_entry(words, index),
     }
 }
 
@@ -97,13 +104,23 @@ fn section(word: u32) -> Entry {
     rights(ap, xn).map_or(Entry::Unaccepted, |rights| Entry::Section(Mapping { first, rights }))
 }
 
-fn l2_entry(word: u32) -> Entry {
+fn l2_entry(words: impl Fn(u32) -> u32, index: u32) -> Entry {
+    let word = words(index);
     match bits(word, 1, 0) {
         // entries 5
         0b00 => Entry::Fault,
+        // entries 20 and 21
+        0b01 if bits(word, 8, 6) == 0 && run(index).all(|other| words(other) == word) => large(word, index % 16),
         0b01 => Entry::Unaccepted,
+        // entries 8
         _ => page(word),
     }
+}
+
+/// entries 21: of the sixteen entries from a multiple of 16 on, those among which an index is.
+pub fn run(index: u32) -> RangeInclusive<u32> {
+    let first = index - index % 16;
+    first..=first + 15
 }
 
 /// entries 8
@@ -111,6 +128,13 @@ fn page(word: u32) -> Entry {
     let (ap, xn) = (bits(word, 9, 9) << 2 | bits(word, 5, 4), bits(word, 0, 0));
     let first = u64::from(bits(word, 31, 12));
     rights(ap, xn).map_or(Entry::Unaccepted, |rights| Entry::Page(Mapping { first, rights }))
+}
+
+/// entries 20
+fn large(word: u32, position: u32) -> Entry {
+    let (ap, xn) = (bits(word, 9, 9) << 2 | bits(word, 5, 4), bits(word, 15, 15));
+    let first = 16 * u64::from(bits(word, 31, 16));
+    rights(ap, xn).map_or(Entry::Unaccepted, |rights| Entry::Large(Mapping { first, rights }, u64::from(position)))
 }
 
 fn rights(ap: u32, xn: u32) -> Option<Rights> {
@@ -131,28 +155,40 @@ pub fn asked(rights: u32) -> Rights {
     Rights { read: rights & 1 != 0, write: rights & 2 != 0, execute: rights & 4 != 0 }
 }
 
-/// The number of an L2 entry with these bits 9..0 (entries 13).
-pub fn page_number(low: u32) -> u32 {
-    match decode(Level::L2, low) {
+/// The page rights of a word that stands in all sixteen entries of its run (entries 13).
+pub fn page_rights(word: u32) -> u32 {
+    match decode(Level::L2, |_| word, 0) {
         Entry::Fault => 0,
-        Entry::Page(Mapping { rights, .. }) => {
+        Entry::Page(Mapping { rights, .. }) | Entry::Large(Mapping { rights, .. }, _) => {
             8 + u32::from(rights.read) + 2 * u32::from(rights.write) + 4 * u32::from(rights.execute)
         }
         _ => 7,
     }
 }
 
-/// entries 15
-pub fn mapping_word(level: Level, target: u32, rights: u32) -> u32 {
-    let low = match (level, rights) {
-        (Level::L2, 0) => 0x01F,
-        (Level::L2, 1) => 0x02F,
-        (Level::L2, 3) => 0x03F,
-        (Level::L2, _) => 0x02E,
-        (Level::L1, 0) => 0x41E,
-        (Level::L1, 1) => 0x81E,
-        (Level::L1, 3) => 0xC1E,
-        (Level::L1, _) => 0x80E,
+/// The number of the table of page rights at this index, bits 9..0 of a word (entries 22).
+pub fn page_number(low: u32) -> u32 {
+    match bits(low, 1, 0) {
+        0b01 => 6,
+        _ => page_rights(low),
+    }
+}
+
+/// entries 15, by the call that maps
+pub fn mapping_word(kind: Kind, target: u32, rights: u32) -> u32 {
+    let low = match (kind, rights) {
+        (Kind::MapL1, 0) => 0x41E,
+        (Kind::MapL1, 1) => 0x81E,
+        (Kind::MapL1, 3) => 0xC1E,
+        (Kind::MapL1, _) => 0x80E,
+        (Kind::MapLarge, 0) => 0x801D,
+        (Kind::MapLarge, 1) => 0x802D,
+        (Kind::MapLarge, 3) => 0x803D,
+        (Kind::MapLarge, _) => 0x002D,
+        (_, 0) => 0x01F,
+        (_, 1) => 0x02F,
+        (_, 3) => 0x03F,
+        (_, _) => 0x02E,
     };
     target << 12 | low
 }
@@ -170,23 +206,35 @@ impl Entry {
             Entry::Link { block, .. } => Some(Place { first: block, count: 1 }),
             Entry::Section(mapping) => Some(Place { first: mapping.first, count: 256 }),
             Entry::Page(mapping) => Some(Place { first: mapping.first, count: 1 }),
+            Entry::Large(mapping, _) => Some(Place { first: mapping.first, count: 16 }),
         }
     }
 
-    /// entries 18
+    /// entries 18: of its place all blocks, but of a large page's the one at its own position.
+    pub fn covered(self) -> Option<Place> {
+        match self {
+            Entry::Large(mapping, position) => Some(Place { first: mapping.first + position, count: 1 }),
+            _ => self.place(),
+        }
+    }
+
     pub fn covers(self) -> Range<u64> {
-        self.place().map_or(0..0, Place::blocks)
+        self.covered().map_or(0..0, Place::blocks)
     }
 
     pub fn links(self) -> bool {
         matches!(self, Entry::Link { .. })
     }
 
+    pub fn is_large(self) -> bool {
+        matches!(self, Entry::Large(..))
+    }
+
     pub fn writable(self) -> bool {
-        matches!(self, Entry::Section(m) | Entry::Page(m) if m.rights.write)
+        matches!(self, Entry::Section(m) | Entry::Page(m) | Entry::Large(m, _) if m.rights.write)
     }
 
     pub fn executable(self) -> bool {
-        matches!(self, Entry::Section(m) | Entry::Page(m) if m.rights.execute)
+        matches!(self, Entry::Section(m) | Entry::Page(m) | Entry::Large(m, _) if m.rights.execute)
     }
 }

@@ -77,8 +77,10 @@ impl View<'_> {
 
     /// guest end, in this one of the blocks that the entry covers
     fn end(&self, entry: Entry, number: u32) -> End {
-        let (Entry::Section(mapping) | Entry::Page(mapping)) = entry else { unreachable!("a walk ends at a mapping") };
-        let block = mapping.first + u64::from(number);
+        let (Entry::Section(mapping) | Entry::Page(mapping) | Entry::Large(mapping, _)) = entry else {
+            unreachable!("a walk ends at a mapping")
+        };
+        let block = entry.covers().start + u64::from(number);
         End { at: self.offset(block) + self.address() as usize % BLOCK, rights: mapping.rights }
     }
 

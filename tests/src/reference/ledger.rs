@@ -74,8 +74,8 @@ impl View<'_> {
         self.changes.get_or_init(|| match self.kind {
             Kind::CreateL1 | Kind::CreateL2 => self.counts(self.table_entries(), 1),
             Kind::FreeL1 | Kind::FreeL2 => self.counts(self.table_entries(), -1),
-            Kind::MapL1 | Kind::MapL2 | Kind::Link => self.counts(&[self.new_entry()], 1),
-            Kind::UnmapL1 | Kind::UnmapL2 => self.counts(&[self.indexed_entry()], -1),
+            Kind::MapL1 | Kind::MapL2 | Kind::MapLarge | Kind::Link => self.counts(&self.new_entries(), 1),
+            Kind::UnmapL1 | Kind::UnmapL2 | Kind::UnmapLarge => self.counts(&self.indexed_entries(), -1),
             _ => Vec::new(),
         })
     }

@@ -1,11 +1,11 @@
 //! RULES, map, link and unmap.
-use super::entries::{asked, link_word, mapping_word, Entry, Level, Mapping, Place, Rights};
+use super::entries::{asked, link_word, mapping_word, run, Entry, Mapping, Place, Rights};
 use super::ledger::{D, L2, W, X};
 use super::refusals::{refusals, Refusal};
 use super::View;
 use crate::monitor::Kind;
 use crate::outcome::Outcome;
-use std::ops::Range;
+use std::ops::{Range, RangeInclusive};
 
 impl View<'_> {
     fn asked(&self) -> Rights {
@@ -14,7 +14,12 @@ impl View<'_> {
 
     /// map target
     fn target_place(&self) -> Place {
-        Place { first: self.target(), count: if self.level() == Level::L1 { 256 } else { 1 } }
+        let count = match self.kind {
+            Kind::MapL1 => 256,
+            Kind::MapLarge => 16,
+            _ => 1,
+        };
+        Place { first: self.target(), count }
     }
 
     fn target_blocks(&self) -> Range<u64> {
@@ -26,7 +31,7 @@ impl View<'_> {
         refusals![
             1 => self.region_wrong() || self.golden_wrong(),
             2 => self.table_outside(),
-            3 => self.table_unaligned() || self.target_unaligned(),
+            3 => self.table_unaligned() || self.index_unaligned() || self.target_unaligned(),
             4 => self.index_large(),
             5 => self.table_not(self.level().code()),
             7 => self.holder_executable(),
@@ -41,17 +46,36 @@ impl View<'_> {
 
     /// map 3
     fn target_unaligned(&self) -> bool {
-        self.level() == Level::L1 && self.target() % 256 != 0
+        self.target() % self.target_place().count != 0
     }
 
-    /// The entry at the index.
-    pub fn indexed_entry(&self) -> Entry {
-        self.entry(self.level(), self.block(), self.index())
+    /// Is the call about a large page?
+    fn about_large(&self) -> bool {
+        matches!(self.kind, Kind::MapLarge | Kind::UnmapLarge)
+    }
+
+    /// map 3, unmap 3
+    fn index_unaligned(&self) -> bool {
+        self.about_large() && self.index() % 16 != 0
+    }
+
+    /// The index, or the sixteen from it on.
+    fn indices(&self) -> RangeInclusive<u32> {
+        if self.about_large() {
+            run(self.index())
+        } else {
+            self.index()..=self.index()
+        }
+    }
+
+    /// The entries at these.
+    pub fn indexed_entries(&self) -> Vec<Entry> {
+        self.indices().map(|index| self.entry(self.level(), self.block(), index)).collect()
     }
 
     /// map 8
     fn entry_taken(&self) -> bool {
-        self.indexed_entry() != Entry::Fault
+        self.indexed_entries().iter().any(|entry| *entry != Entry::Fault)
     }
 
     /// map 9
@@ -84,26 +108,29 @@ impl View<'_> {
         self.asked().execute && self.target_blocks().any(|block| !self.signed(block))
     }
 
-    /// The entry that a map or link adds.
-    pub fn new_entry(&self) -> Entry {
+    /// The entries that a map or link adds.
+    pub fn new_entries(&self) -> Vec<Entry> {
         let mapping = Mapping { first: self.target(), rights: self.asked() };
         match self.kind {
-            Kind::MapL1 => Entry::Section(mapping),
-            Kind::MapL2 => Entry::Page(mapping),
-            _ => Entry::Link { block: self.target(), table: self.arguments[3] },
+            Kind::MapL1 => vec![Entry::Section(mapping)],
+            Kind::MapL2 => vec![Entry::Page(mapping)],
+            Kind::MapLarge => (0..16).map(|position| Entry::Large(mapping, position)).collect(),
+            _ => vec![Entry::Link { block: self.target(), table: self.arguments[3] }],
         }
     }
 
     /// map leaves
     pub fn map_leaves(&self, outcome: &mut Outcome) {
         let [_, _, target, rights] = self.arguments;
-        self.rewrite(mapping_word(self.level(), target, rights), outcome);
+        self.rewrite(mapping_word(self.kind, target, rights), outcome);
     }
 
-    /// This word comes to the index, and the counters change.
+    /// This word comes to the index, or to all sixteen, and the counters change.
     fn rewrite(&self, word: u32, outcome: &mut Outcome) {
-        let at = self.offset(self.block()) + 4 * self.index() as usize;
-        outcome.memory.extend((at..).zip(word.to_le_bytes()));
+        for index in self.indices() {
+            let at = self.offset(self.block()) + 4 * index as usize;
+            outcome.memory.extend((at..).zip(word.to_le_bytes()));
+        }
         outcome.ledger.extend(self.changed_counters());
     }
 
@@ -143,14 +170,19 @@ impl View<'_> {
         refusals![
             1 => self.region_wrong(),
             2 => self.table_outside(),
-            3 => self.table_unaligned(),
+            3 => self.table_unaligned() || self.index_unaligned(),
             4 => self.index_large(),
             5 => self.table_not(self.level().code()),
             7 => self.holder_executable(),
-            8 => self.indexed_entry() == Entry::Unaccepted,
-            10 => self.outside(self.indexed_entry()),
+            8 => self.indexed_entries().iter().any(|entry| self.stays(*entry)),
+            10 => self.indexed_entries().iter().any(|entry| self.outside(*entry)),
             13 => self.counters_leave_range(),
         ]
+    }
+
+    /// unmap 8: an entry that is not accepted, one of a large page in another call than unmap large, and every other in that one.
+    fn stays(&self, entry: Entry) -> bool {
+        entry == Entry::Unaccepted || entry.is_large() != self.about_large()
     }
 
     /// unmap leaves

@@ -1,4 +1,4 @@
-//! The monitor, written for tests from document 01 and its readings, without a look at definitions or code: slow, plain, and total on all buffers and
+//! The monitor, written for tests from documents 01 and 02 and their readings, without a look at definitions or code: slow, plain, and total on all buffers and
 //! arguments. It follows docs/RULES.md section by section and cites its clauses.
 pub mod entries;
 mod guest;
@@ -79,9 +79,9 @@ impl<'a> View<'a> {
             Kind::Begin => self.begin_refusals(),
             Kind::CreateL1 | Kind::CreateL2 => self.create_refusals(),
             Kind::FreeL1 | Kind::FreeL2 => self.free_refusals(),
-            Kind::MapL1 | Kind::MapL2 => self.map_refusals(),
+            Kind::MapL1 | Kind::MapL2 | Kind::MapLarge => self.map_refusals(),
             Kind::Link => self.link_refusals(),
-            Kind::UnmapL1 | Kind::UnmapL2 => self.unmap_refusals(),
+            Kind::UnmapL1 | Kind::UnmapL2 | Kind::UnmapLarge => self.unmap_refusals(),
             Kind::Switch => self.switch_refusals(),
             Kind::Read | Kind::Write | Kind::Fetch => self.guest_refusals(),
         }
@@ -93,9 +93,9 @@ impl<'a> View<'a> {
             Kind::Begin => self.begin_leaves(outcome),
             Kind::CreateL1 | Kind::CreateL2 => self.create_leaves(outcome),
             Kind::FreeL1 | Kind::FreeL2 => self.free_leaves(outcome),
-            Kind::MapL1 | Kind::MapL2 => self.map_leaves(outcome),
+            Kind::MapL1 | Kind::MapL2 | Kind::MapLarge => self.map_leaves(outcome),
             Kind::Link => self.link_leaves(outcome),
-            Kind::UnmapL1 | Kind::UnmapL2 => self.unmap_leaves(outcome),
+            Kind::UnmapL1 | Kind::UnmapL2 | Kind::UnmapLarge => self.unmap_leaves(outcome),
             Kind::Switch => self.switch_leaves(outcome),
             Kind::Read | Kind::Fetch => self.guest_byte(outcome),
             Kind::Write => self.guest_leaves(outcome),
@@ -105,7 +105,9 @@ impl<'a> View<'a> {
     /// The level of the table that the call names.
     fn level(&self) -> Level {
         match self.kind {
-            Kind::CreateL2 | Kind::FreeL2 | Kind::MapL2 | Kind::UnmapL2 => Level::L2,
+            Kind::CreateL2 | Kind::FreeL2 | Kind::MapL2 | Kind::UnmapL2 | Kind::MapLarge | Kind::UnmapLarge => {
+                Level::L2
+            }
             _ => Level::L1,
         }
     }

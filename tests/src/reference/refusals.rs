@@ -70,7 +70,7 @@ impl View<'_> {
 
     /// The entry of a table at an index.
     pub fn entry(&self, level: Level, table: u64, index: u32) -> Entry {
-        decode(level, self.word_at(table, index))
+        decode(level, |index| self.word_at(table, index), index)
     }
 
     /// Does a part of the place lie outside the region?

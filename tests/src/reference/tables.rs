@@ -72,7 +72,7 @@ impl View<'_> {
     /// create 12
     fn table_executes_unsigned(&self) -> bool {
         let executable = self.table_entries().iter().filter(|entry| entry.executable());
-        let places: BTreeSet<Place> = executable.filter_map(|entry| entry.place()).collect();
+        let places: BTreeSet<Place> = executable.filter_map(|entry| entry.covered()).collect();
         places.into_iter().any(|place| place.blocks().any(|block| !self.signed(block)))
     }
 
