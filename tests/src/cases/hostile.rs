@@ -1,5 +1,6 @@
 //! Ledgers, memories and arguments at random, drawn so that every refusal and acceptance is likely.
 use super::guest::random_word;
+use super::large::random_run;
 use super::reasons::LIMIT;
 use super::scene::*;
 use crate::bytes::put_word;
@@ -14,6 +15,12 @@ pub fn run(kind: Kind, comparer: &mut Comparer) -> Outcome {
         let blocks = 8 + random.below(10);
         comparer.check(case(kind, blocks, &mut random))?;
     }
+    if about_l2(kind) {
+        for _ in 0..1500 {
+            let blocks = 16 + random.below(34);
+            comparer.check(case(kind, blocks, &mut random))?;
+        }
+    }
     if matches!(kind, CreateL1 | FreeL1 | MapL1 | UnmapL1) {
         for _ in 0..150 {
             let blocks = 256 + random.below(10);
@@ -21,6 +28,11 @@ pub fn run(kind: Kind, comparer: &mut Comparer) -> Outcome {
         }
     }
     Ok(())
+}
+
+/// Is the call about an L2 block?
+fn about_l2(kind: Kind) -> bool {
+    matches!(kind, CreateL2 | FreeL2 | MapL2 | UnmapL2 | MapLarge | UnmapLarge)
 }
 
 fn case(kind: Kind, blocks: usize, random: &mut Random) -> super::Case {
@@ -38,7 +50,7 @@ fn case(kind: Kind, blocks: usize, random: &mut Random) -> super::Case {
         1 => scene.block(table).wrapping_add(random.below(8) as u32).wrapping_sub(4),
         _ => scene.block(table),
     };
-    let arguments = [block, index(random), target(kind, &scene, random), last(kind, random)];
+    let arguments = [block, index(kind, random), target(kind, &scene, random), last(kind, random)];
     scene.case("random", kind, &arguments[..kind.arity()])
 }
 
@@ -46,7 +58,7 @@ fn case(kind: Kind, blocks: usize, random: &mut Random) -> super::Case {
 fn records(kind: Kind, scene: &mut Scene, table: usize, random: &mut Random) {
     let needed = match kind {
         CreateL1 | CreateL2 => 0,
-        FreeL2 | MapL2 | UnmapL2 => 2,
+        FreeL2 | MapL2 | UnmapL2 | MapLarge | UnmapLarge => 2,
         _ => 1,
     };
     for position in 0..scene.blocks() {
@@ -60,12 +72,16 @@ fn records(kind: Kind, scene: &mut Scene, table: usize, random: &mut Random) {
         };
         scene.set_record(position, TYPE, code);
         for which in [W, X, L] {
-            let often = if scene.blocks() > 200 { 200 } else { 8 };
+            let often = match scene.blocks() {
+                0..18 => 8,
+                18..200 => 60,
+                _ => 200,
+            };
             let count = match random.below(often) {
                 _ if own && random.below(8) > 0 => 0,
                 0 => 1,
                 1 => [2, 5, LIMIT - 1, LIMIT, LIMIT + 1, LIMIT + 3, u32::MAX][random.below(7)],
-                _ if matches!(kind, FreeL1 | FreeL2 | UnmapL1 | UnmapL2) => 9,
+                _ if matches!(kind, FreeL1 | FreeL2 | UnmapL1 | UnmapL2 | UnmapLarge) => 9,
                 _ => 0,
             };
             scene.set_record(position, which, count);
@@ -73,10 +89,13 @@ fn records(kind: Kind, scene: &mut Scene, table: usize, random: &mut Random) {
     }
 }
 
-/// A few words in the table, seldom an unaccepted one.
+/// A few words in the table, seldom an unaccepted one, and behind or under them runs.
 fn words(kind: Kind, scene: &mut Scene, table: usize, random: &mut Random) {
-    let blocks = if matches!(kind, CreateL2 | FreeL2 | MapL2 | UnmapL2) { 1 } else { 4 };
-    for _ in 0..random.below(8) {
+    let blocks = if about_l2(kind) { 1 } else { 4 };
+    if about_l2(kind) {
+        (0..random.below(4)).for_each(|_| random_run(scene, table, random));
+    }
+    for _ in 0..random.below(if kind == UnmapLarge { 2 } else { 8 }) {
         let block = scene.block(random.below(scene.blocks())) << 12;
         let word = match random.below(6) {
             0 => random_word(scene, random),
@@ -84,7 +103,7 @@ fn words(kind: Kind, scene: &mut Scene, table: usize, random: &mut Random) {
             1 | 2 => (scene.first << 12) | [SECTION_READ, SECTION_WRITE, SECTION_EXECUTE][random.below(3)],
             _ => block | (random.below(4) as u32) << 10 | 1,
         };
-        let index = [index(random) as usize % (1024 * blocks), random.below(6)][random.below(2)];
+        let index = [index(kind, random) as usize % (1024 * blocks), random.below(6)][random.below(2)];
         scene.put(table, index, word);
     }
 }
@@ -103,10 +122,12 @@ fn golden(scene: &mut Scene, random: &mut Random) {
     }
 }
 
-fn index(random: &mut Random) -> u32 {
+fn index(kind: Kind, random: &mut Random) -> u32 {
     match random.below(16) {
         0 => [1023, 1024, 2047, 3072, 4095, 4096][random.below(6)],
         1 => random.next() as u32,
+        2 if about_l2(kind) => 256 * random.below(2) as u32 + random.below(64) as u32,
+        _ if matches!(kind, MapLarge | UnmapLarge) => 256 * random.below(2) as u32 + 16 * random.below(4) as u32,
         _ => random.below(6) as u32,
     }
 }
@@ -117,6 +138,7 @@ fn target(kind: Kind, scene: &Scene, random: &mut Random) -> u32 {
         1 => scene.first.wrapping_sub(1),
         2 => scene.block(scene.blocks()),
         _ if kind == MapL1 => scene.first,
+        _ if kind == MapLarge => scene.block(16 * random.below(scene.blocks() / 16 + 1)),
         _ => scene.block(random.below(scene.blocks())),
     }
 }

@@ -1,6 +1,7 @@
 //! Cases for the comparison, call by call.
 mod guest;
 mod hostile;
+mod large;
 mod reasons;
 mod regions;
 pub mod scene;
@@ -26,10 +27,14 @@ pub fn run(kind: Kind, comparer: &mut Comparer) -> Outcome {
     match kind {
         Kind::Begin => simple::begin(comparer)?,
         Kind::Switch => simple::switch(comparer)?,
-        Kind::Read | Kind::Write | Kind::Fetch => guest::run(kind, comparer)?,
+        Kind::Read | Kind::Write | Kind::Fetch => {
+            guest::run(kind, comparer)?;
+            large::run(kind, comparer)?;
+        }
         _ => {
             reasons::run(kind, comparer)?;
             tables::run(kind, comparer)?;
+            large::run(kind, comparer)?;
             reasons::pairs(kind, comparer)?;
             whole::run(kind, comparer)?;
             hostile::run(kind, comparer)?;

@@ -38,13 +38,18 @@ impl Setup {
 /// A refusal number and what makes it apply.
 type Reason = (u32, fn(&mut Setup));
 
-/// Where things stand. Around L1 tables: a section of data from 0, the table, an L2 block. Around L2 blocks: the same from block 4 on.
+/// Where things stand. Around L1 tables: a section of data from 0, the table, an L2 block. Around L2 blocks: the block and some data, and room for the
+/// sixteen blocks of a large page.
 pub const L1_TABLE: usize = 256;
 pub const L2_BLOCK: usize = 260;
 pub const L1_REGION: usize = 264;
 pub const PAGE_TABLE: usize = 8;
 pub const PAGE: usize = 10;
 pub const L2_REGION: usize = 16;
+pub const LARGE: usize = 16;
+pub const LARGE_REGION: usize = 40;
+/// The last sixteen entries of an L2 block.
+pub const LAST_RUN: usize = 1008;
 
 /// A section of data, an L1 table of zeros and an L2 block.
 pub fn l1_scene() -> Scene {
@@ -62,9 +67,24 @@ pub fn l2_scene() -> Scene {
     scene
 }
 
+/// An L2 block of zeros, and data of zeros behind it, signed.
+pub fn large_scene() -> Scene {
+    let mut scene = Scene::new(FIRST, LARGE_REGION);
+    scene.set_types(PAGE_TABLE..PAGE_TABLE + 1, 2);
+    scene.store.golden = zero_digest().to_vec();
+    scene
+}
+
 /// Raises a counter on all blocks of the section.
 fn count_section(scene: &mut Scene, which: usize, value: u32) {
     for position in 0..256 {
+        scene.set_record(position, which, value);
+    }
+}
+
+/// Sets a counter on all blocks of the large page.
+pub fn count_large(scene: &mut Scene, which: usize, value: u32) {
+    for position in LARGE..LARGE + 16 {
         scene.set_record(position, which, value);
     }
 }
@@ -85,6 +105,8 @@ pub fn accepted(kind: Kind) -> Vec<Setup> {
         }
         UnmapL1 => vec![unmap_l1(SECTION_WRITE, W), unmap_l1(SECTION_EXECUTE, X), unmap_link()],
         UnmapL2 => [(PAGE_WRITE, W), (PAGE_EXECUTE, X)].map(|(low, which)| unmap_l2(low, which)).to_vec(),
+        MapLarge => [3, 5].map(map_large).to_vec(),
+        UnmapLarge => [(LARGE_WRITE, W), (LARGE_EXECUTE, X)].map(|(low, which)| unmap_large(low, which)).to_vec(),
         _ => Vec::new(),
     }
 }
@@ -162,13 +184,27 @@ fn unmap_l2(low: u32, which: usize) -> Setup {
     Setup::new(scene, UnmapL2, &[block, 1023])
 }
 
+fn map_large(rights: u32) -> Setup {
+    let scene = large_scene();
+    let arguments = [scene.block(PAGE_TABLE), LAST_RUN as u32, scene.block(LARGE), rights];
+    Setup::new(scene, MapLarge, &arguments)
+}
+
+fn unmap_large(low: u32, which: usize) -> Setup {
+    let mut scene = large_scene();
+    scene.put_run(PAGE_TABLE, LAST_RUN, scene.mapping(LARGE, low));
+    count_large(&mut scene, which, 1);
+    let block = scene.block(PAGE_TABLE);
+    Setup::new(scene, UnmapLarge, &[block, LAST_RUN as u32])
+}
+
 /// The refusals of each accepted form, in the order of `accepted`.
 fn reasons(kind: Kind) -> Vec<Vec<Reason>> {
     let mut common: Vec<Reason> = vec![(1, long_ledger), (1, odd_first), (2, far_block)];
-    if kind.refusals().contains(&3) {
+    if matches!(kind, CreateL1 | FreeL1 | MapL1 | Link | UnmapL1) {
         common.push((3, odd_block));
     }
-    if matches!(kind, CreateL1 | CreateL2 | MapL1 | MapL2) {
+    if matches!(kind, CreateL1 | CreateL2 | MapL1 | MapL2 | MapLarge) {
         common.push((1, golden_part));
     }
     let own: Vec<Vec<Reason>> = match kind {
@@ -197,6 +233,15 @@ fn reasons(kind: Kind) -> Vec<Vec<Reason>> {
         UnmapL2 => vec![
             [unmap_l2_reasons(), vec![(13, page_w0)]].concat(),
             [unmap_l2_reasons(), vec![(13, page_x0), (13, page_x_high)]].concat(),
+        ],
+        MapLarge => vec![
+            [map_large_reasons(), vec![(10, strange_large), (11, x_large), (13, full_w_large)]].concat(),
+            [map_large_reasons(), vec![(10, holder_large), (11, w_large), (12, tampered_large), (13, full_x_large)]]
+                .concat(),
+        ],
+        UnmapLarge => vec![
+            [unmap_large_reasons(), vec![(13, w0_large), (13, w_high_large)]].concat(),
+            [unmap_large_reasons(), vec![(13, x0_large), (13, x_high_large)]].concat(),
         ],
         _ => Vec::new(),
     };
@@ -323,6 +368,39 @@ fn unmap_l2_reasons() -> Vec<Reason> {
     ]
 }
 
+fn map_large_reasons() -> Vec<Reason> {
+    vec![
+        (3, |s| *s.argument(1) += 1),
+        (3, |s| *s.argument(2) += 8),
+        (4, |s| *s.argument(1) += 16),
+        (5, |s| s.scene.set_record(PAGE_TABLE, TYPE, 1)),
+        (7, |s| s.scene.set_record(PAGE_TABLE, X, 1)),
+        (8, |s| s.scene.put(PAGE_TABLE, LAST_RUN, 1)),
+        (8, |s| s.scene.put(PAGE_TABLE, LAST_RUN + 15, s.scene.mapping(PAGE, PAGE_READ))),
+        (8, |s| s.scene.put_run(PAGE_TABLE, LAST_RUN, s.scene.mapping(LARGE, LARGE_READ))),
+        (9, |s| *s.argument(3) |= 0x8000_0000),
+        (9, |s| *s.argument(3) &= !1),
+        (10, |s| *s.argument(2) += 0x100),
+        (10, |s| *s.argument(2) += 16),
+        (11, |s| *s.argument(3) |= 6),
+    ]
+}
+
+fn unmap_large_reasons() -> Vec<Reason> {
+    vec![
+        (3, |s| *s.argument(1) += 1),
+        (4, |s| *s.argument(1) += 16),
+        (5, |s| s.scene.set_record(PAGE_TABLE, TYPE, 0)),
+        (7, |s| s.scene.set_record(PAGE_TABLE, X, 1)),
+        (8, |s| s.scene.put_run(PAGE_TABLE, LAST_RUN, 0)),
+        (8, |s| s.scene.put(PAGE_TABLE, LAST_RUN + 15, 0)),
+        (8, |s| s.scene.put(PAGE_TABLE, LAST_RUN + 7, s.scene.word(PAGE_TABLE, LAST_RUN) ^ 1 << 12)),
+        (8, |s| s.scene.put(PAGE_TABLE, LAST_RUN, (0x2FF << 12) + PAGE_READ)),
+        (8, |s| s.scene.put_run(PAGE_TABLE, LAST_RUN, s.scene.word(PAGE_TABLE, LAST_RUN) | 1 << 6)),
+        (10, large_outside),
+    ]
+}
+
 impl Setup {
     /// Does this accepted form write, rather than execute?
     fn writes(&self) -> bool {
@@ -439,6 +517,57 @@ fn page_x0(s: &mut Setup) {
 
 fn page_x_high(s: &mut Setup) {
     s.scene.set_record(PAGE, X, LIMIT + 2);
+}
+
+fn strange_large(s: &mut Setup) {
+    s.scene.set_record(LARGE + 7, TYPE, 3);
+}
+
+/// The target has the holder among its sixteen blocks.
+fn holder_large(s: &mut Setup) {
+    *s.argument(2) = FIRST;
+}
+
+fn w_large(s: &mut Setup) {
+    s.scene.set_record(LARGE + 7, W, 1);
+}
+
+fn x_large(s: &mut Setup) {
+    s.scene.set_record(LARGE + 15, X, 1);
+}
+
+fn tampered_large(s: &mut Setup) {
+    s.scene.put_byte(LARGE + 6, 4095, 1);
+}
+
+fn full_w_large(s: &mut Setup) {
+    s.scene.set_record(LARGE + 6, W, LIMIT);
+}
+
+fn full_x_large(s: &mut Setup) {
+    s.scene.set_record(LARGE + 15, X, u32::MAX);
+}
+
+fn w0_large(s: &mut Setup) {
+    s.scene.set_record(LARGE + 15, W, 0);
+}
+
+fn x0_large(s: &mut Setup) {
+    s.scene.set_record(LARGE + 7, X, 0);
+}
+
+fn w_high_large(s: &mut Setup) {
+    s.scene.set_record(LARGE + 1, W, LIMIT + 2);
+}
+
+fn x_high_large(s: &mut Setup) {
+    s.scene.set_record(LARGE + 15, X, u32::MAX);
+}
+
+/// The run becomes a large page of which only a part lies in the region, counted on no block.
+fn large_outside(s: &mut Setup) {
+    let low = s.scene.word(PAGE_TABLE, LAST_RUN) & 0xFFFF;
+    s.scene.put_run(PAGE_TABLE, LAST_RUN, s.scene.mapping(LARGE + 16, low));
 }
 
 /// The entry becomes a section of which only a part lies in the region, counted as before.

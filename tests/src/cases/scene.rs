@@ -98,7 +98,7 @@ impl Scene {
 
     /// The word of a page, large page or section at this block.
     pub fn mapping(&self, position: usize, low: u32) -> u32 {
-        (self.block(position) << 12) + low
+        (self.block(position) << 12).wrapping_add(low)
     }
 
     pub fn link(&self, position: usize, table: u32) -> u32 {

@@ -11,21 +11,23 @@ const COUNTS: [u32; 9] = [0, 1, 2, LIMIT - 1, LIMIT, LIMIT + 1, LIMIT + 2, 1 << 
 pub fn run(kind: Kind, comparer: &mut Comparer) -> Outcome {
     blocks(kind, comparer)?;
     types(kind, comparer)?;
-    if kind.arity() > 1 {
+    if kind.arity() > 1 && !about_large(kind) {
         indices(kind, comparer)?;
         holders(kind, comparer)?;
         words_at_the_index(kind, comparer)?;
     }
     counters(kind, comparer)?;
     match kind {
-        MapL1 | MapL2 => {
+        MapL1 | MapL2 | MapLarge => {
             rights(kind, comparer)?;
             golden_images(kind, comparer)?;
-            if kind == MapL1 {
-                section_targets(comparer)?;
-                executed_tables(comparer)
-            } else {
-                page_targets(comparer)
+            match kind {
+                MapL1 => {
+                    section_targets(comparer)?;
+                    executed_tables(comparer)
+                }
+                MapL2 => page_targets(comparer),
+                _ => Ok(()),
             }
         }
         CreateL1 | CreateL2 => {
@@ -54,7 +56,12 @@ pub fn run(kind: Kind, comparer: &mut Comparer) -> Outcome {
 
 /// Is the call about an L1 table?
 fn about_l1(kind: Kind) -> bool {
-    !matches!(kind, CreateL2 | FreeL2 | MapL2 | UnmapL2)
+    !matches!(kind, CreateL2 | FreeL2 | MapL2 | UnmapL2 | MapLarge | UnmapLarge)
+}
+
+/// Is it about a large page?
+fn about_large(kind: Kind) -> bool {
+    matches!(kind, MapLarge | UnmapLarge)
 }
 
 /// Position of the table, its number of blocks, its type as the call needs it.
@@ -62,7 +69,7 @@ fn table(kind: Kind) -> (usize, usize, u32) {
     match kind {
         CreateL1 => (L1_TABLE, 4, 0),
         CreateL2 => (PAGE_TABLE, 1, 0),
-        FreeL2 | MapL2 | UnmapL2 => (PAGE_TABLE, 1, 2),
+        FreeL2 | MapL2 | UnmapL2 | MapLarge | UnmapLarge => (PAGE_TABLE, 1, 2),
         _ => (L1_TABLE, 4, 1),
     }
 }
@@ -78,7 +85,8 @@ fn blocks(kind: Kind, comparer: &mut Comparer) -> Outcome {
         let far = (0..9).map(|k| end - 5 + k);
         let huge = [1 << 20, 1 << 31, u32::MAX, u32::MAX - 1, u32::MAX - 2, u32::MAX - 3, u32::MAX - 4];
         for block in near.chain(far).chain(huge) {
-            let arguments = [block, 5, first, 1];
+            let index = if about_large(kind) { 16 } else { 5 };
+            let arguments = [block, index, first, 1];
             comparer.check(scene.case("a block near an edge", kind, &arguments[..kind.arity()]))?;
         }
     }
@@ -169,7 +177,11 @@ fn words_at_the_index(kind: Kind, comparer: &mut Comparer) -> Outcome {
 
 /// Counters of the target at their edges, on one block of it.
 fn counters(kind: Kind, comparer: &mut Comparer) -> Outcome {
-    let targets: &[usize] = if about_l1(kind) { &[0, 1, 255, L2_BLOCK] } else { &[PAGE] };
+    let targets: &[usize] = match kind {
+        MapLarge | UnmapLarge => &[LARGE - 1, LARGE, LARGE + 1, LARGE + 7, LARGE + 15, LARGE + 16],
+        _ if about_l1(kind) => &[0, 1, 255, L2_BLOCK],
+        _ => &[PAGE],
+    };
     for setup in accepted(kind) {
         for &target in targets {
             for which in [W, X, L] {
@@ -192,7 +204,11 @@ fn rights(kind: Kind, comparer: &mut Comparer) -> Outcome {
         setup.call.arguments[3] = rights;
         comparer.check(setup.clone().case("rights", Some(answer)))?;
         for (which, count) in [(W, 1), (X, 1), (W, LIMIT), (X, LIMIT), (TYPE, 1), (TYPE, 2), (TYPE, 0x100)] {
-            let target = if kind == MapL1 { 77 } else { PAGE };
+            let target = match kind {
+                MapL1 => 77,
+                MapLarge => LARGE + 9,
+                _ => PAGE,
+            };
             let mut setup = setup.clone();
             setup.scene.set_record(target, which, count);
             comparer.check(setup.case(&format!("rights, record word {which} is {count:#x}"), None))?;

@@ -50,7 +50,7 @@ impl View<'_> {
     }
 
     /// Is the call about a large page?
-    fn about_large(&self) -> bool {
+    pub fn about_large(&self) -> bool {
         matches!(self.kind, Kind::MapLarge | Kind::UnmapLarge)
     }
 
