@@ -38,7 +38,8 @@ pub fn run(kind: Kind, comparer: &mut Comparer) -> Outcome {
             about.places(comparer)?;
             about.counters(comparer)?;
             indices(UnmapLarge, comparer)?;
-            holders(UnmapLarge, comparer)
+            holders(UnmapLarge, comparer)?;
+            no_large_pages(comparer)
         }
         Read | Write | Fetch => {
             about.arrangements(comparer)?;
@@ -490,6 +491,19 @@ fn entries_to_be_mapped(comparer: &mut Comparer) -> Outcome {
         full.scene.put_run(PAGE_TABLE, 512, 0x8000_0004);
         full.call.arguments[1] = 512;
         comparer.check(full.case("pages all around sixteen faults", Some(0)))?;
+    }
+    Ok(())
+}
+
+/// Sixteen equal words that are no large page: faults, pages, and unaccepted forms.
+fn no_large_pages(comparer: &mut Comparer) -> Outcome {
+    for setup in accepted(UnmapLarge) {
+        let word = setup.scene.word(PAGE_TABLE, LAST_RUN);
+        for other in [0, 4, word & !3, word | 3, word ^ 3, word | 0x40, word | 0x100, word & !0x30 | 0x200, 1 | 0x1C0] {
+            let mut setup = setup.clone();
+            setup.scene.put_run(PAGE_TABLE, LAST_RUN, other);
+            comparer.check(setup.case(&format!("sixteen times {other:#x}"), Some(8)))?;
+        }
     }
     Ok(())
 }
