@@ -29,12 +29,22 @@ fn l1_gives(word: u32) -> Option<Gives> {
     }
 }
 
-fn l2_gives(word: u32) -> Option<Gives> {
-    if word & 2 == 0 {
-        return None;
+/// Of an L2 table or block, the entry at an index. One of a large page gives a block of its own.
+fn l2_gives(table: &[u8], index: usize) -> Option<Gives> {
+    let entry = word(table, index);
+    let ap = AP[((entry >> 7 & 4) + (entry >> 4 & 3)) as usize];
+    match entry % 4 {
+        0 => None,
+        1 if entry & 0x1C0 != 0 || !is_repeated(table, index) => None,
+        1 => mapping(entry as usize / 65536 * 16 + index % 16, 1, ap, entry & 0x8000 == 0),
+        _ => mapping(entry as usize / 4096, 1, ap, entry % 2 == 0),
     }
-    let ap = AP[((word >> 7 & 4) + (word >> 4 & 3)) as usize];
-    mapping(word as usize / 4096, 1, ap, word % 2 == 0)
+}
+
+/// Does the word at an index stand in all sixteen entries around it?
+fn is_repeated(table: &[u8], index: usize) -> bool {
+    let sixteen = table.chunks(64).nth(index / 16).unwrap_or_default();
+    sixteen.chunks(4).all(|bytes| bytes == &table[4 * index..4 * index + 4])
 }
 
 fn mapping(first: usize, count: usize, ap: u8, may_execute: bool) -> Option<Gives> {
@@ -138,8 +148,9 @@ impl Told {
         let mut counts = vec![[0; 3]; self.tables.len()];
         for (position, code) in self.tables.iter().enumerate().filter(|(_, code)| **code != 0) {
             let block = &memory[BLOCK * position..BLOCK * (position + 1)];
-            for word in (0..1024).map(|index| word(block, index)).filter(|word| word % 4 != 0) {
-                let Some(gives) = (if *code == 1 { l1_gives(word) } else { l2_gives(word) }) else { continue };
+            for index in (0..1024).filter(|index| word(block, *index) % 4 != 0) {
+                let gives = if *code == 1 { l1_gives(word(block, index)) } else { l2_gives(block, index) };
+                let Some(gives) = gives else { continue };
                 for block in gives.first..gives.first + gives.count {
                     if let Some(count) = block.checked_sub(self.first).and_then(|at| counts.get_mut(at)) {
                         count[0] += u32::from(gives.write);
@@ -191,7 +202,7 @@ impl Told {
             return Some((self.position(gives.first + (address >> 12) % 256)?, address % BLOCK));
         }
         let place = BLOCK * self.position(gives.first)? + 1024 * (entry as usize >> 10 & 3);
-        let page = l2_gives(word(&memory[place..place + 1024], (address >> 12) % 256))?;
+        let page = l2_gives(&memory[place..place + 1024], (address >> 12) % 256)?;
         Some((self.position(page.first)?, address % BLOCK))
     }
 

@@ -8,11 +8,15 @@ use crate::random::Random;
 use std::collections::{BTreeSet, VecDeque};
 use Kind::*;
 
-/// Seed, blocks and steps of each list: many short ones in small regions, a few in regions with room for sections.
+/// Seed, blocks and steps of each list: many short ones in small regions, some in regions with room for large pages, a few with room for sections.
 fn lists() -> impl Iterator<Item = (u64, usize, usize)> {
     let small = (0..60).map(|seed| (seed, 8 + Random::new(seed).below(20), 300));
-    small.chain((100..106).map(|seed| (seed, [260, 512, 520][seed as usize % 3], 150)))
+    let larger = (60..90).map(|seed| (seed, [48, 64, 67, 80][seed as usize % 4], 300));
+    small.chain(larger).chain((100..112).map(|seed| (seed, [260, 512, 520][seed as usize % 3], 150)))
 }
+
+/// The pages of an L2 table that accesses go to: some at its start, and some of the three runs there.
+const PAGES: [u32; 13] = [0, 1, 2, 3, 4, 5, 16, 17, 24, 31, 32, 40, 47];
 
 /// Compares every step, and holds lists 7 to 12 against it.
 pub fn run(comparer: &mut Comparer) -> Outcome {
@@ -57,7 +61,8 @@ pub struct Lister {
 }
 
 impl Lister {
-    /// A memory with data, beginnings of tables and zeros, some of it signed, and a ledger of random bytes.
+    /// A memory with data, beginnings of tables and zeros, some of it signed, if there is room sixteen signed blocks that all differ, and a ledger of
+    /// random bytes.
     pub fn new(seed: u64, blocks: usize) -> Lister {
         let mut random = Random::new(1000 + seed);
         let first = 256 * random.below(5) as u32;
@@ -65,6 +70,10 @@ impl Lister {
         scene.store.ledger = random.bytes(scene.store.ledger.len());
         for group in (0..blocks.min(40)).step_by(4) {
             put_group(&mut scene, group, &mut random);
+        }
+        for position in (48..64).filter(|_| blocks >= 64) {
+            scene.fill(position, &mut random);
+            scene.sign(position);
         }
         scene.store.golden.extend(zero_digest());
         if seed % 15 == 7 {
@@ -103,10 +112,12 @@ impl Lister {
             0..=4 => self.anything(),
             5..=12 => self.create(),
             13..=15 => self.free(),
-            16..=30 => self.map_page(),
+            16..=26 => self.map_page(),
+            27..=30 => self.map_large(),
             31..=38 => self.link(),
             39..=44 => self.unmap(),
             45..=48 => self.switch(),
+            49..=53 if self.told.tables.len() < 256 => self.map_large(),
             49..=53 => self.map_section(),
             54..=64 if self.told.tables.len() > 256 => self.map_section(),
             54..=60 => self.plan_written_table(),
@@ -125,9 +136,10 @@ impl Lister {
         self.block(position)
     }
 
-    /// Some block of this kind, or else any.
+    /// Some block of this kind in the region's first section, or else any.
     fn some(&mut self, code: u8) -> u32 {
-        let all: Vec<usize> = (0..self.told.tables.len()).filter(|at| self.told.tables[*at] == code).collect();
+        let first_section = 0..self.told.tables.len().min(256);
+        let all: Vec<usize> = first_section.filter(|at| self.told.tables[*at] == code).collect();
         if all.is_empty() {
             return self.any_block();
         }
@@ -204,6 +216,39 @@ impl Lister {
         Call::new(MapL2, &[self.some(2), self.random.below(6) as u32, target, self.rights()])
     }
 
+    fn map_large(&mut self) -> Call {
+        let target = self.some_sixteen();
+        Call::new(MapLarge, &[self.some(2), 16 * self.random.below(3) as u32, target, self.rights()])
+    }
+
+    /// The first of sixteen blocks among which there is no table, or else of any.
+    fn some_sixteen(&mut self) -> u32 {
+        let groups = (self.told.tables.len() / 16).clamp(1, 5);
+        let free = |group: &usize| self.told.tables.chunks(16).nth(*group).is_some_and(|types| types == [0; 16]);
+        let fit: Vec<usize> = (0..groups).filter(free).collect();
+        let group = match fit.len() {
+            0 => self.random.below(groups),
+            _ if self.random.below(4) == 0 => self.random.below(groups),
+            count => fit[self.random.below(count)],
+        };
+        self.block(16 * group)
+    }
+
+    /// An L2 block and the index of a run in it, or else any.
+    fn some_run(&mut self) -> [u32; 2] {
+        let tables = (0..self.told.tables.len()).filter(|at| self.told.tables[*at] == 2);
+        let entries = tables.flat_map(|table| (0..3).map(move |run| (table, 16 * run)));
+        let memory = &self.scene.store.memory;
+        let runs: Vec<_> = entries.filter(|(table, index)| word(memory, BLOCK * table + 4 * index) % 4 == 1).collect();
+        match runs.len() {
+            0 => [self.some(2), 16 * self.random.below(3) as u32],
+            count => {
+                let (table, index) = runs[self.random.below(count)];
+                [self.block(table), index as u32]
+            }
+        }
+    }
+
     fn map_section(&mut self) -> Call {
         let sections = (self.told.tables.len() / 256).max(1);
         let section = self.random.below(sections);
@@ -216,19 +261,31 @@ impl Lister {
     }
 
     fn unmap(&mut self) -> Call {
-        match self.random.below(3) {
-            0 => Call::new(UnmapL1, &[self.some_l1(), self.random.below(6) as u32]),
+        match self.random.below(8) {
+            0 | 1 => Call::new(UnmapL1, &[self.some_l1(), self.random.below(6) as u32]),
+            2 | 3 => Call::new(UnmapLarge, &self.some_run()),
+            4 => Call::new(UnmapL2, &self.some_run()),
             _ => Call::new(UnmapL2, &[self.some(2), self.random.below(6) as u32]),
         }
     }
 
+    /// A switch, and then a fetch where it could be fetched before.
     fn switch(&mut self) -> Call {
-        Call::new(Switch, &[self.some_l1()])
+        let switch = Call::new(Switch, &[self.some_l1()]);
+        let end = |page: &u32| self.told.walk(*page as usize, &self.scene.store.memory);
+        let mut pages = self.mapped();
+        pages.retain(|page| end(page).is_some_and(|(position, _)| self.scene.record(position, X) > 0));
+        if pages.is_empty() {
+            return switch;
+        }
+        self.plan.push_back(switch);
+        Call::new(Fetch, &[self.random.one_of(&pages)])
     }
 
     /// An address that is likely to be mapped.
     fn address(&mut self) -> u32 {
-        (self.random.below(6) << 20 | self.random.below(6) << 12 | self.random.below(4096)) as u32
+        let page = self.random.one_of(&PAGES);
+        (self.random.below(6) << 20 | self.random.below(4096)) as u32 | page << 12
     }
 
     fn access(&mut self) -> Call {
@@ -259,7 +316,7 @@ impl Lister {
 
     /// The pages near the start of the address space at which a walk has an end.
     fn mapped(&self) -> Vec<u32> {
-        let pages = (0..6u32).flat_map(|l1| (0..6u32).map(move |l2| l1 << 20 | l2 << 12));
+        let pages = (0..6u32).flat_map(|l1| PAGES.map(|l2| l1 << 20 | l2 << 12));
         pages.filter(|page| self.told.walk(*page as usize, &self.scene.store.memory).is_some()).collect()
     }
 
@@ -284,25 +341,46 @@ impl Lister {
         }
         let page = mapped[self.random.below(mapped.len())];
         let Some((position, _)) = self.told.walk(page as usize, &self.scene.store.memory) else { return self.access() };
-        let target = self.any_block() << 12;
-        let low = [PAGE_NONE, PAGE_READ, PAGE_WRITE, PAGE_EXECUTE, PAGE_ALL, 0, 1][self.random.below(7)];
         let index = self.random.below(6) as u32;
-        for (k, byte) in (0..).zip((target | low).to_le_bytes()) {
-            self.plan.push_back(Call::new(Write, &[page + 4 * index + k, u32::from(byte) | 0x5500]));
+        if self.told.tables.len() > 32 && self.random.below(4) == 0 {
+            self.plan_written_run(page);
+        } else {
+            let target = self.any_block() << 12;
+            let low = [PAGE_NONE, PAGE_READ, PAGE_WRITE, PAGE_EXECUTE, PAGE_ALL, 0, 1][self.random.below(7)];
+            self.plan_written_word(page + 4 * index, target | low);
         }
         self.plan_unmap_all(position);
         self.plan.push_back(Call::new(CreateL2, &[self.block(position)]));
         Call::new(Read, &[page + 4 * index])
     }
 
-    /// Unmaps the small entries that lead to a block.
+    fn plan_written_word(&mut self, address: u32, word: u32) {
+        for (k, byte) in (0..).zip(word.to_le_bytes()) {
+            self.plan.push_back(Call::new(Write, &[address + k, u32::from(byte) | 0x5500]));
+        }
+    }
+
+    /// The words of a large page, at times one too few.
+    fn plan_written_run(&mut self, page: u32) {
+        let low = self.random.one_of(&[LARGE_NONE, LARGE_READ, LARGE_WRITE, LARGE_WRITE, LARGE_EXECUTE, LARGE_EXECUTE]);
+        let word = self.some_sixteen() << 12 | low;
+        let first = 16 * self.random.below(3) as u32;
+        let count = if self.random.below(4) == 0 { 15 } else { 16 };
+        (first..first + count).for_each(|index| self.plan_written_word(page + 4 * index, word));
+    }
+
+    /// Unmaps the pages, small and large, that lead to a block.
     fn plan_unmap_all(&mut self, position: usize) {
         let block = self.block(position);
         for (table, _) in self.told.tables.iter().enumerate().filter(|(_, code)| **code == 2) {
             for index in 0..1024 {
                 let entry = word(&self.scene.store.memory, BLOCK * table + 4 * index);
+                let arguments = [self.told.first as u32 + table as u32, index as u32];
                 if entry & 2 != 0 && entry >> 12 == block {
-                    self.plan.push_back(Call::new(UnmapL2, &[self.told.first as u32 + table as u32, index as u32]));
+                    self.plan.push_back(Call::new(UnmapL2, &arguments));
+                }
+                if entry & 3 == 1 && entry >> 16 == block >> 4 && index % 16 == 0 {
+                    self.plan.push_back(Call::new(UnmapLarge, &arguments));
                 }
             }
         }
@@ -343,8 +421,17 @@ fn put_l1_table(scene: &mut Scene, position: usize, random: &mut Random) {
     }
 }
 
-/// A block that can be made an L2 block: a few pages near the region's start.
+/// A block that can be made an L2 block: a few pages near the region's start, and large pages, seldom with one word too few.
 fn put_page_table(scene: &mut Scene, position: usize, random: &mut Random) {
+    for _ in 0..random.below(3) * usize::from(scene.blocks() >= 16) {
+        let target = 16 * random.below(scene.blocks() / 16);
+        let low = [LARGE_NONE, LARGE_READ, LARGE_READ, LARGE_WRITE, LARGE_EXECUTE][random.below(5)];
+        let index = 16 * (1 + random.below(2));
+        scene.put_run(position, index, scene.mapping(target, low));
+        if random.below(8) == 0 {
+            scene.put(position, index + random.below(16), 0);
+        }
+    }
     for _ in 0..random.below(5) {
         let target = random.below(scene.blocks());
         let low = [PAGE_NONE, PAGE_READ, PAGE_WRITE, PAGE_EXECUTE][random.below(4)];
