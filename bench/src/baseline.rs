@@ -1,4 +1,4 @@
-//! The fourteen calls in plain Rust, written for speed: what a good program without proofs would be. Safe Rust, every index checked.
+//! The sixteen calls in plain Rust, written for speed: what a good program without proofs would be. Safe Rust, every index checked.
 //! Create and free count a table's entries in lent scratch bytes first, 16 for each block; their counts are 0 before and after each call.
 use crate::sha256::sha256;
 
@@ -19,6 +19,9 @@ const NO_TABLE: u32 = 0xFFFF_FFFF;
 const LIMIT: u32 = 1 << 22;
 const L1_BLOCKS: u32 = 4;
 const SECTION_BLOCKS: u32 = 256;
+const LARGE_BLOCKS: u32 = 16;
+/// The bytes of a large page's sixteen entries.
+const RUN: usize = 64;
 
 /// Nothing, or the number of a refusal.
 type Judged<T = ()> = Result<T, u32>;
@@ -69,10 +72,10 @@ fn records_mut(ledger: &mut [u8]) -> &mut [Record] {
     ledger[LEDGER_HEAD..].as_chunks_mut().0
 }
 
-/// The records of a section's blocks.
+/// The records of M blocks.
 #[inline(always)]
-fn section_records(ledger: &[u8], t: usize) -> &[Record] {
-    &records(ledger)[t..t + SECTION_BLOCKS as usize]
+fn records_of<const M: u32>(ledger: &[u8], t: usize) -> &[Record] {
+    &records(ledger)[t..t + M as usize]
 }
 
 #[derive(Clone, Copy)]
@@ -133,6 +136,7 @@ enum Entry {
 }
 
 const FAULT: u8 = 0;
+const WHOLE_WORD: u8 = 6;
 const UNACCEPTED: u8 = 7;
 const ACCEPTED: u8 = 8;
 
@@ -146,7 +150,7 @@ const fn rights_code(ap: usize, xn: usize) -> u8 {
 }
 
 /// By AP and XN: 2 * AP + XN.
-static SECTION_CODES: [u8; 16] = {
+static CODES: [u8; 16] = {
     let mut codes = [0; 16];
     let mut at = 0;
     while at < 16 {
@@ -162,7 +166,7 @@ static PAGE_CODES: [u8; 1024] = {
     let mut low = 0;
     while low < 1024 {
         if low % 4 == 1 {
-            codes[low] = UNACCEPTED;
+            codes[low] = WHOLE_WORD;
         }
         if low % 4 >= 2 {
             codes[low] = rights_code((low >> 9) * 4 + (low >> 4) % 4, low % 2);
@@ -178,7 +182,7 @@ fn l1_entry(word: u32) -> Entry {
         0 => Entry::Fault,
         1 if word & 0x3FC == 0 => Entry::Link(word >> 10),
         2 if word & 0xC_03E0 == 0 => {
-            let code = SECTION_CODES[((word >> 12 & 8) | (word >> 9 & 6) | (word >> 4 & 1)) as usize];
+            let code = CODES[((word >> 12 & 8) | (word >> 9 & 6) | (word >> 4 & 1)) as usize];
             if code == UNACCEPTED {
                 return Entry::Unaccepted;
             }
@@ -188,13 +192,25 @@ fn l1_entry(word: u32) -> Entry {
     }
 }
 
+/// A fault, a page, or what is accepted in a run at most.
 #[inline(always)]
 fn l2_entry(word: u32) -> Entry {
     match PAGE_CODES[word as usize % 1024] {
         FAULT => Entry::Fault,
-        UNACCEPTED => Entry::Unaccepted,
+        WHOLE_WORD | UNACCEPTED => Entry::Unaccepted,
         code => Entry::Mapping(word >> 12, 1, (code - ACCEPTED) as u32),
     }
+}
+
+/// Sixteen entries, of which the first has low bits 01, as one mapping.
+#[inline(always)]
+fn large_entry(run: &[u8; RUN]) -> Entry {
+    let word = word(run, 0);
+    let code = CODES[((word >> 6 & 8) | (word >> 3 & 6) | (word >> 15 & 1)) as usize];
+    if word & 0x1C0 != 0 || code == UNACCEPTED || run[4..] != run[..RUN - 4] {
+        return Entry::Unaccepted;
+    }
+    Entry::Mapping(word >> 16 << 4, LARGE_BLOCKS, (code - ACCEPTED) as u32)
 }
 
 #[inline(never)]
@@ -208,11 +224,11 @@ pub fn begin(memory: &[u8], ledger: &mut [u8], first: u32) -> u32 {
     0
 }
 
-/// A table's level: how its words are read, its blocks and its type.
+/// A table's level: its blocks, its type, and what its words mean, a large page's sixteen together.
 trait Level {
     const BLOCKS: u32;
     const TYPE: u32;
-    fn entry(word: u32) -> Entry;
+    fn each_entry(table: &[u8], take: impl FnMut(Entry) -> Judged) -> Judged;
 }
 
 struct Sections;
@@ -222,8 +238,8 @@ impl Level for Sections {
     const BLOCKS: u32 = L1_BLOCKS;
     const TYPE: u32 = L1;
     #[inline(always)]
-    fn entry(word: u32) -> Entry {
-        l1_entry(word)
+    fn each_entry(table: &[u8], mut take: impl FnMut(Entry) -> Judged) -> Judged {
+        table.as_chunks().0.iter().try_for_each(|bytes| take(l1_entry(u32::from_le_bytes(*bytes))))
     }
 }
 
@@ -231,16 +247,22 @@ impl Level for Pages {
     const BLOCKS: u32 = 1;
     const TYPE: u32 = L2;
     #[inline(always)]
-    fn entry(word: u32) -> Entry {
-        l2_entry(word)
+    fn each_entry(table: &[u8], mut take: impl FnMut(Entry) -> Judged) -> Judged {
+        for run in table.as_chunks().0 {
+            if run[0] & 3 == 1 {
+                take(large_entry(run))?;
+            } else {
+                run.as_chunks().0.iter().try_for_each(|bytes| take(l2_entry(u32::from_le_bytes(*bytes))))?;
+            }
+        }
+        Ok(())
     }
 }
 
-/// The words of the table at b.
+/// The bytes of the table at b.
 #[inline(always)]
-fn table_words<V: Level>(memory: &[u8], b: usize) -> impl Iterator<Item = u32> + '_ {
-    let table = &memory[BLOCK * b..BLOCK * (b + V::BLOCKS as usize)];
-    table.chunks_exact(4).map(|bytes| u32::from_le_bytes(bytes.try_into().unwrap()))
+fn table_bytes<V: Level>(memory: &[u8], b: usize) -> &[u8] {
+    &memory[BLOCK * b..BLOCK * (b + V::BLOCKS as usize)]
 }
 
 /// What a table's entries give to each block. Record b of the scratch bytes has the counts of block b in the places of the ledger's record;
@@ -342,8 +364,8 @@ impl New {
         b: usize,
         counts: &mut Counts,
     ) -> Judged {
-        for word in table_words::<V>(memory, b) {
-            match V::entry(word) {
+        V::each_entry(table_bytes::<V>(memory, b), |entry| {
+            match entry {
                 Entry::Fault => {}
                 Entry::Unaccepted => return Err(8),
                 Entry::Link(place) => match region.place(place / 4, 1) {
@@ -363,8 +385,8 @@ impl New {
                     None => self.refuse_if(true, 10),
                 },
             }
-        }
-        Ok(())
+            Ok(())
+        })
     }
 
     /// Refusals 10 to 13.
@@ -459,8 +481,8 @@ pub fn create_l2(memory: &[u8], ledger: &mut [u8], golden: &[u8], scratch: &mut 
 #[inline(always)]
 fn count_old<V: Level>(memory: &[u8], region: Region, b: usize, counts: &mut Counts) -> Judged {
     let mut inside = true;
-    for word in table_words::<V>(memory, b) {
-        match V::entry(word) {
+    V::each_entry(table_bytes::<V>(memory, b), |entry| {
+        match entry {
             Entry::Fault => {}
             Entry::Unaccepted => return Err(8),
             Entry::Link(place) => match region.place(place / 4, 1) {
@@ -478,7 +500,8 @@ fn count_old<V: Level>(memory: &[u8], region: Region, b: usize, counts: &mut Cou
                 None => inside = false,
             },
         }
-    }
+        Ok(())
+    })?;
     refuse_if(!inside, 10)
 }
 
@@ -561,10 +584,11 @@ fn l1_slot(region: Region, ledger: &[u8], block: u32, index: u32, aligned: bool,
     Ok(BLOCK * b + 4 * index as usize)
 }
 
-/// The place in memory of an L2 entry: refusals 2, 4, 5 and 7.
+/// The place in memory of an L2 entry: refusals 2, 3, 4, 5 and 7.
 #[inline(always)]
-fn l2_slot(region: Region, ledger: &[u8], block: u32, index: u32) -> Judged<usize> {
+fn l2_slot(region: Region, ledger: &[u8], block: u32, index: u32, aligned: bool) -> Judged<usize> {
     let b = region.place(block, 1).ok_or(2u32)?;
+    refuse_if(!aligned, 3)?;
     refuse_if(index > 1023, 4)?;
     let holder = &records(ledger)[b];
     refuse_if(word(holder, TYPE) != L2, 5)?;
@@ -572,16 +596,23 @@ fn l2_slot(region: Region, ledger: &[u8], block: u32, index: u32) -> Judged<usiz
     Ok(BLOCK * b + 4 * index as usize)
 }
 
+/// Refusal 9.
+#[inline(always)]
+fn judge_rights(rights: u32) -> Judged {
+    refuse_if(rights > 7 || (rights & READ == 0 && rights != 0), 9)
+}
+
 /// Refusals 8 and 9 of a new mapping.
 #[inline(always)]
 fn judge_request(memory: &[u8], at: usize, rights: u32) -> Judged {
     refuse_if(word(memory, at) & 3 != 0, 8)?;
-    refuse_if(rights > 7 || (rights & READ == 0 && rights != 0), 9)
+    judge_rights(rights)
 }
 
 /// By the rights 0, 1, 3 and 5.
 const SECTION_BITS: [u32; 8] = [0x41E, 0x81E, 0, 0xC1E, 0, 0x80E, 0, 0];
 const PAGE_BITS: [u32; 8] = [0x01F, 0x02F, 0, 0x03F, 0, 0x02E, 0, 0];
+const LARGE_BITS: [u32; 8] = [0x801D, 0x802D, 0, 0x803D, 0, 0x002D, 0, 0];
 
 #[inline(always)]
 fn judge_map_l1(
@@ -597,8 +628,46 @@ fn judge_map_l1(
     judge_image(golden)?;
     let at = l1_slot(region, ledger, block, index, target % SECTION_BLOCKS == 0, 0)?;
     judge_request(memory, at, rights)?;
-    let t = region.place(target, SECTION_BLOCKS).ok_or(10u32)?;
-    let target_records = section_records(ledger, t);
+    map_blocks::<SECTION_BLOCKS>(memory, ledger, golden, region, block + index / 1024, target, rights)?;
+    put_word(memory, at, target << 12 | SECTION_BITS[rights as usize]);
+    Ok(())
+}
+
+#[inline(always)]
+fn judge_map_large(
+    memory: &mut [u8],
+    ledger: &mut [u8],
+    golden: &[u8],
+    block: u32,
+    index: u32,
+    target: u32,
+    rights: u32,
+) -> Judged {
+    let region = Region::stored(memory, ledger)?;
+    judge_image(golden)?;
+    let at = l2_slot(region, ledger, block, index, (index | target) % LARGE_BLOCKS == 0)?;
+    let low = memory[at..at + RUN].iter().step_by(4).fold(0, |low, byte| low | byte);
+    refuse_if(low & 3 != 0, 8)?;
+    judge_rights(rights)?;
+    map_blocks::<LARGE_BLOCKS>(memory, ledger, golden, region, block, target, rights)?;
+    let word = (target << 12 | LARGE_BITS[rights as usize]).to_le_bytes();
+    memory[at..at + RUN].as_chunks_mut().0.fill(word);
+    Ok(())
+}
+
+/// Refusals 10 to 13 of a mapping of M blocks, and their counters.
+#[inline(always)]
+fn map_blocks<const M: u32>(
+    memory: &[u8],
+    ledger: &mut [u8],
+    golden: &[u8],
+    region: Region,
+    holder: u32,
+    target: u32,
+    rights: u32,
+) -> Judged {
+    let t = region.place(target, M).ok_or(10u32)?;
+    let target_records = records_of::<M>(ledger, t);
     if rights & WRITE != 0 {
         let (mut types, mut executed, mut most) = (0, 0, 0);
         for record in target_records {
@@ -609,23 +678,21 @@ fn judge_map_l1(
         refuse_if(types != DATA, 10)?;
         refuse_if(rights & EXECUTE != 0 || executed != 0, 11)?;
         refuse_if(most >= LIMIT, 13)?;
-        change_section(ledger, t, W, 1);
+        change_blocks::<M>(ledger, t, W, 1);
     } else if rights & EXECUTE != 0 {
-        let holder = block + index / 1024;
-        refuse_if((target..target + SECTION_BLOCKS).contains(&holder), 10)?;
+        refuse_if((target..target + M).contains(&holder), 10)?;
         refuse_if(target_records.iter().any(|record| word(record, W) > 0), 11)?;
-        refuse_if((t..t + SECTION_BLOCKS as usize).any(|b| !is_signed(memory, b, golden)), 12)?;
+        refuse_if((t..t + M as usize).any(|b| !is_signed(memory, b, golden)), 12)?;
         refuse_if(target_records.iter().any(|record| word(record, X) >= LIMIT), 13)?;
-        change_section(ledger, t, X, 1);
+        change_blocks::<M>(ledger, t, X, 1);
     }
-    put_word(memory, at, target << 12 | SECTION_BITS[rights as usize]);
     Ok(())
 }
 
-/// Adds to a word of the records of a section's blocks, modulo 2^32.
+/// Adds to a word of the records of M blocks, modulo 2^32.
 #[inline(always)]
-fn change_section(ledger: &mut [u8], t: usize, k: usize, change: u32) {
-    for record in &mut records_mut(ledger)[t..t + SECTION_BLOCKS as usize] {
+fn change_blocks<const M: u32>(ledger: &mut [u8], t: usize, k: usize, change: u32) {
+    for record in &mut records_mut(ledger)[t..t + M as usize] {
         let changed = word(record, k).wrapping_add(change);
         put_word(record, k, changed);
     }
@@ -643,7 +710,7 @@ fn judge_map_l2(
 ) -> Judged {
     let region = Region::stored(memory, ledger)?;
     judge_image(golden)?;
-    let at = l2_slot(region, ledger, block, index)?;
+    let at = l2_slot(region, ledger, block, index, true)?;
     judge_request(memory, at, rights)?;
     let t = region.place(target, 1).ok_or(10u32)?;
     let record = &mut records_mut(ledger)[t];
@@ -690,6 +757,19 @@ pub fn map_l2(
     answer(judge_map_l2(memory, ledger, golden, block, index, target, rights))
 }
 
+#[inline(never)]
+pub fn map_large(
+    memory: &mut [u8],
+    ledger: &mut [u8],
+    golden: &[u8],
+    block: u32,
+    index: u32,
+    target: u32,
+    rights: u32,
+) -> u32 {
+    answer(judge_map_large(memory, ledger, golden, block, index, target, rights))
+}
+
 #[inline(always)]
 fn judge_link(memory: &mut [u8], ledger: &mut [u8], block: u32, index: u32, target: u32, table: u32) -> Judged {
     let region = Region::stored(memory, ledger)?;
@@ -724,28 +804,45 @@ fn judge_unmap_l1(memory: &mut [u8], ledger: &mut [u8], block: u32, index: u32) 
             refuse_if(taken_overruns(l, 1), 13)?;
             put_word(record, L, l - 1);
         }
-        Entry::Mapping(first, m, rights) => {
-            let t = region.place(first, m).ok_or(10u32)?;
-            let counted = [(WRITE, W), (EXECUTE, X)];
-            for (right, k) in counted {
-                let overruns = |record: &Record| taken_overruns(word(record, k), 1);
-                refuse_if(rights & right != 0 && section_records(ledger, t).iter().any(overruns), 13)?;
-            }
-            for (right, k) in counted {
-                if rights & right != 0 {
-                    change_section(ledger, t, k, 1u32.wrapping_neg());
-                }
-            }
-        }
+        Entry::Mapping(first, _, rights) => unmap_blocks::<SECTION_BLOCKS>(ledger, region, first, rights)?,
     }
     put_word(memory, at, 0);
     Ok(())
 }
 
 #[inline(always)]
+fn judge_unmap_large(memory: &mut [u8], ledger: &mut [u8], block: u32, index: u32) -> Judged {
+    let region = Region::stored(memory, ledger)?;
+    let at = l2_slot(region, ledger, block, index, index % LARGE_BLOCKS == 0)?;
+    let run = memory[at..].first_chunk_mut::<RUN>().ok_or(8u32)?;
+    refuse_if(run[0] & 3 != 1, 8)?;
+    let Entry::Mapping(first, _, rights) = large_entry(run) else { return Err(8) };
+    unmap_blocks::<LARGE_BLOCKS>(ledger, region, first, rights)?;
+    run.fill(0);
+    Ok(())
+}
+
+/// Refusals 10 and 13 of a mapping of M blocks that is taken away, and their counters.
+#[inline(always)]
+fn unmap_blocks<const M: u32>(ledger: &mut [u8], region: Region, first: u32, rights: u32) -> Judged {
+    let t = region.place(first, M).ok_or(10u32)?;
+    let counted = [(WRITE, W), (EXECUTE, X)];
+    for (right, k) in counted {
+        let overruns = |record: &Record| taken_overruns(word(record, k), 1);
+        refuse_if(rights & right != 0 && records_of::<M>(ledger, t).iter().any(overruns), 13)?;
+    }
+    for (right, k) in counted {
+        if rights & right != 0 {
+            change_blocks::<M>(ledger, t, k, 1u32.wrapping_neg());
+        }
+    }
+    Ok(())
+}
+
+#[inline(always)]
 fn judge_unmap_l2(memory: &mut [u8], ledger: &mut [u8], block: u32, index: u32) -> Judged {
     let region = Region::stored(memory, ledger)?;
-    let at = l2_slot(region, ledger, block, index)?;
+    let at = l2_slot(region, ledger, block, index, true)?;
     match l2_entry(word(memory, at)) {
         Entry::Mapping(first, _, rights) => {
             let t = region.place(first, 1).ok_or(10u32)?;
@@ -775,6 +872,11 @@ pub fn unmap_l2(memory: &mut [u8], ledger: &mut [u8], block: u32, index: u32) ->
     answer(judge_unmap_l2(memory, ledger, block, index))
 }
 
+#[inline(never)]
+pub fn unmap_large(memory: &mut [u8], ledger: &mut [u8], block: u32, index: u32) -> u32 {
+    answer(judge_unmap_large(memory, ledger, block, index))
+}
+
 #[inline(always)]
 fn judge_switch(memory: &[u8], ledger: &mut [u8], block: u32) -> Judged {
     let region = Region::stored(memory, ledger)?;
@@ -787,6 +889,19 @@ fn judge_switch(memory: &[u8], ledger: &mut [u8], block: u32) -> Judged {
 #[inline(never)]
 pub fn switch(memory: &[u8], ledger: &mut [u8], block: u32) -> u32 {
     answer(judge_switch(memory, ledger, block))
+}
+
+/// The block to which an L2 entry that is no page leads, and its rights: one of a large page, or refusal 24.
+#[inline(always)]
+fn walk_large(memory: &[u8], region: Region, at: usize) -> Judged<(usize, u32)> {
+    let run = memory[at - at % RUN..].first_chunk().ok_or(24u32)?;
+    match large_entry(run) {
+        Entry::Mapping(first, m, rights) if memory[at] & 3 == 1 => {
+            let b = region.place(first, m).ok_or(24u32)?;
+            Ok((b + at % RUN / 4, rights))
+        }
+        _ => Err(24),
+    }
 }
 
 /// The place in memory to which the address leads, if all rights are there.
@@ -809,7 +924,7 @@ fn walk(memory: &[u8], ledger: &[u8], address: u32, needed: u32) -> Judged<usize
             match l2_entry(word(memory, at)) {
                 Entry::Fault => return Err(22),
                 Entry::Mapping(first, m, rights) => (region.place(first, m).ok_or(24u32)?, rights),
-                _ => return Err(24),
+                _ => walk_large(memory, region, at)?,
             }
         }
     };

@@ -32,7 +32,8 @@ pub fn check_workload(name: &str, batch: &Batch, lent: &Buffers) {
 
 /// The indices that are used.
 const L1_INDICES: [u32; 5] = [0, 1, 2, 1024, 4095];
-const L2_INDICES: [u32; 5] = [0, 1, 255, 256, 1023];
+const L2_INDICES: [u32; 7] = [0, 1, 5, 255, 256, 270, 1023];
+const RUNS: [u32; 4] = [0, 240, 256, 1008];
 
 /// Calls drawn at random, on a memory and a ledger into which odd words are put on the way.
 struct Drawn {
@@ -101,14 +102,32 @@ impl Drawn {
         }
     }
 
-    /// An entry at an index that calls use too.
+    /// Sixteen blocks near the region's start or at its end, or any other.
+    fn sixteen(&mut self) -> u32 {
+        let near = self.first + 16 * self.random.below(self.blocks.min(64) / 16 + 1) as u32;
+        let other = self.block();
+        self.random.one_of(&[near, near, near, near, near, other])
+    }
+
+    fn large_word(&mut self) -> u32 {
+        let low = self.random.one_of(&[0x801D, 0x802D, 0x802D, 0x803D, 0x803D, 0x002D, 0x003D]);
+        match self.random.below(20) {
+            0 => self.random.next() as u32 & !3 | 1,
+            1 => self.sixteen() >> 4 << 16 | self.random.next() as u32 & 0xFFFC | 1,
+            2 | 3 => 0,
+            _ => self.sixteen() >> 4 << 16 | low,
+        }
+    }
+
+    /// An entry at an index that calls use too, or a run of sixteen.
     fn poke_memory(&mut self) {
-        let (at, word) = if self.random.below(2) == 0 {
-            (self.random.one_of(&L1_INDICES) as usize, self.l1_word())
-        } else {
-            (1024 * (4 + self.random.below(3)) + self.random.one_of(&L2_INDICES) as usize, self.l2_word())
+        let l2_block = 1024 * (4 + self.random.below(3));
+        let (at, count, word) = match self.random.below(4) {
+            0 | 1 => (self.random.one_of(&L1_INDICES) as usize, 1, self.l1_word()),
+            2 => (l2_block + self.random.one_of(&L2_INDICES) as usize, 1, self.l2_word()),
+            _ => (l2_block + self.random.one_of(&RUNS) as usize, 16, self.large_word()),
         };
-        self.lent.memory[4 * at..4 * at + 4].copy_from_slice(&word.to_le_bytes());
+        self.lent.memory[4 * at..4 * (at + count)].as_chunks_mut().0.fill(word.to_le_bytes());
     }
 
     /// A word of a record, or now and then the first block or the active table.
@@ -130,6 +149,7 @@ impl Drawn {
         let rights = self.random.one_of(&[0, 1, 3, 3, 3, 5, 5, 7, 2, 8]);
         let (l1_index, l2_index) = (self.random.one_of(&L1_INDICES), self.random.one_of(&L2_INDICES));
         let beyond = u32::from(self.random.below(20) == 0);
+        let run = self.random.one_of(&RUNS) + u32::from(self.random.below(20) == 0);
         match kind {
             Kind::Begin => [self.random.one_of(&[0, 256, 512, 768, 1, 0xFFF00, 0xFFFFFF00]), 0, 0, 0],
             Kind::CreateL1 | Kind::FreeL1 | Kind::Switch => [self.l1_table(), 0, 0, 0],
@@ -139,6 +159,8 @@ impl Drawn {
             Kind::Link => [self.l1_table(), l1_index, self.l2_block(), self.random.below(4) as u32 + 4 * beyond],
             Kind::UnmapL1 => [self.l1_table(), l1_index + 4096 * beyond, 0, 0],
             Kind::UnmapL2 => [self.l2_block(), l2_index + 1024 * beyond, 0, 0],
+            Kind::MapLarge => [self.l2_block(), run + 16 * beyond, self.sixteen(), rights],
+            Kind::UnmapLarge => [self.l2_block(), run + 16 * beyond, 0, 0],
             Kind::Read | Kind::Write | Kind::Fetch => {
                 let address = l1_index << 20 | (l2_index % 256) << 12 | self.random.below(4096) as u32;
                 [address, self.random.next() as u32, 0, 0]
@@ -169,7 +191,7 @@ impl Drawn {
 
 /// Compares random calls, and gives the number of pairs of a kind of call and an answer among them.
 pub fn check_random(calls: usize) -> usize {
-    let sizes = [8, 12, 24, 260, 512, 512];
+    let sizes = [8, 12, 24, 40, 260, 512, 512];
     let lists = 8;
     let mut pairs = BTreeSet::new();
     for (seed, blocks) in sizes.into_iter().enumerate() {

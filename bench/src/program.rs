@@ -73,6 +73,8 @@ impl Program for Plain {
             Read(&[a, ..], byte) => baseline::read(memory, ledger, a, byte),
             Write(&[a, b, ..], _) => baseline::write(memory, ledger, a, b),
             Fetch(&[a, ..], byte) => baseline::fetch(memory, ledger, a, byte),
+            MapLarge(&[a, b, c, d], _) => baseline::map_large(memory, ledger, golden, a, b, c, d),
+            UnmapLarge(&[a, b, ..], _) => baseline::unmap_large(memory, ledger, a, b),
         })
     }
 }

@@ -17,6 +17,7 @@ const OTHER_L2_BLOCK: u32 = FIRST + 9;
 const DATA: u32 = FIRST + TABLE_BLOCKS as u32;
 
 const SECTION_BLOCKS: usize = 256;
+const LARGE_BLOCKS: u32 = 16;
 const READ_ONLY: u32 = 1;
 const READ_WRITE: u32 = 3;
 const READ_EXECUTE: u32 = 5;
@@ -72,6 +73,11 @@ impl Scene {
     /// The i-th data block, from the first again after the last.
     fn data(&self, i: u32) -> u32 {
         DATA + i % (self.blocks - TABLE_BLOCKS) as u32
+    }
+
+    /// The first of the i-th sixteen data blocks, from the first again after the last.
+    fn sixteen(&self, i: u32) -> u32 {
+        DATA + LARGE_BLOCKS * (i % ((self.blocks - TABLE_BLOCKS) as u32 / LARGE_BLOCKS))
     }
 
     /// The i-th section without tables.
@@ -166,7 +172,7 @@ impl Scene {
     }
 }
 
-/// The words of a page and of a section with some rights.
+/// The words of a page, a large page and a section with some rights.
 fn page(block: u32, rights: u32) -> u32 {
     let access = match rights {
         READ_ONLY => 0x02F,
@@ -174,6 +180,15 @@ fn page(block: u32, rights: u32) -> u32 {
         _ => 0x02E,
     };
     block << 12 | access
+}
+
+fn large_page(first: u32, rights: u32) -> u32 {
+    let access = match rights {
+        READ_ONLY => 0x802D,
+        READ_WRITE => 0x803D,
+        _ => 0x002D,
+    };
+    first << 12 | access
 }
 
 fn section(first: u32, rights: u32) -> u32 {
@@ -199,6 +214,10 @@ fn page_maps(scene: &Scene) -> Vec<[u32; 4]> {
     (0..1024).map(|i| [L2_BLOCK, i, scene.data(i), READ_WRITE]).collect()
 }
 
+fn large_maps(scene: &Scene, rights: u32) -> Vec<[u32; 4]> {
+    (0..64).map(|i| [L2_BLOCK, LARGE_BLOCKS * i, scene.sixteen(i), rights]).collect()
+}
+
 fn section_maps(scene: &Scene) -> Vec<[u32; 4]> {
     (0..64).map(|i| [L1_TABLE, i, scene.section(i), READ_WRITE]).collect()
 }
@@ -212,7 +231,7 @@ const fn workload(name: &'static str, least: usize, make: fn(&mut Scene) -> Batc
 }
 
 /// Calls that hash nothing.
-pub static CALLS: [Workload; 34] = [
+pub static CALLS: [Workload; 42] = [
     workload("begin", 64, |_| accepted(Begin, vec![[FIRST, 0, 0, 0]; 64])),
     workload("create L1, empty", 64, |_| accepted(CreateL1, vec![[L1_TABLE, 0, 0, 0]])),
     workload("create L1, 16 sections, 64 links", 512, |scene| {
@@ -234,6 +253,12 @@ pub static CALLS: [Workload; 34] = [
     workload("create L2, 64 scattered pages", 64, |scene| {
         let word = |scene: &Scene, i: u32| if i % 16 == 5 { page(scene.data(97 * i), READ_WRITE) } else { 0 };
         accepted(CreateL2, scene.pages(word))
+    }),
+    workload("create L2, 64 read-only large pages", 64, |scene| {
+        accepted(CreateL2, scene.pages(|scene, i| large_page(scene.sixteen(i / LARGE_BLOCKS), READ_ONLY)))
+    }),
+    workload("create L2, 64 writable large pages", 64, |scene| {
+        accepted(CreateL2, scene.pages(|scene, i| large_page(scene.sixteen(i / LARGE_BLOCKS), READ_WRITE)))
     }),
     workload("create L1, 4,096 read-only sections", 512, |scene| {
         accepted(CreateL1, scene.sections(|scene, i| section(scene.section(i), READ_ONLY)))
@@ -259,6 +284,11 @@ pub static CALLS: [Workload; 34] = [
         scene.accepted(CreateL2, &[[L2_BLOCK, 0, 0, 0]]);
         accepted(FreeL2, vec![[L2_BLOCK, 0, 0, 0]])
     }),
+    workload("free L2, 64 writable large pages", 64, |scene| {
+        let words = scene.pages(|scene, i| large_page(scene.sixteen(i / LARGE_BLOCKS), READ_WRITE));
+        scene.accepted(CreateL2, &words);
+        accepted(FreeL2, words)
+    }),
     workload("map L1, writable section", 512, |scene| {
         scene.tables();
         accepted(MapL1, section_maps(scene))
@@ -274,6 +304,14 @@ pub static CALLS: [Workload; 34] = [
     workload("map L2, read-only page", 64, |scene| {
         scene.tables();
         accepted(MapL2, (0..1024).map(|i| [L2_BLOCK, i, scene.data(i), READ_ONLY]).collect())
+    }),
+    workload("map large, writable", 64, |scene| {
+        scene.tables();
+        accepted(MapLarge, large_maps(scene, READ_WRITE))
+    }),
+    workload("map large, read-only", 64, |scene| {
+        scene.tables();
+        accepted(MapLarge, large_maps(scene, READ_ONLY))
     }),
     workload("link", 64, |scene| {
         scene.tables();
@@ -296,6 +334,18 @@ pub static CALLS: [Workload; 34] = [
         scene.accepted(MapL2, &maps);
         accepted(UnmapL2, maps)
     }),
+    workload("unmap large, writable", 64, |scene| {
+        scene.tables();
+        let maps = large_maps(scene, READ_WRITE);
+        scene.accepted(MapLarge, &maps);
+        accepted(UnmapLarge, maps)
+    }),
+    workload("unmap large, read-only", 64, |scene| {
+        scene.tables();
+        let maps = large_maps(scene, READ_ONLY);
+        scene.accepted(MapLarge, &maps);
+        accepted(UnmapLarge, maps)
+    }),
     workload("unmap L2, fault", 64, |scene| {
         scene.tables();
         accepted(UnmapL2, page_maps(scene))
@@ -306,6 +356,13 @@ pub static CALLS: [Workload; 34] = [
     }),
     workload("read, page", 64, |scene| {
         scene.guest_pages(READ_WRITE);
+        accepted(Read, guest_addresses())
+    }),
+    workload("read, large page", 64, |scene| {
+        scene.tables();
+        scene.accepted(Link, &[[L1_TABLE, 0, L2_BLOCK, 0]]);
+        scene.accepted(MapLarge, &large_maps(scene, READ_ONLY)[..2]);
+        scene.accepted(Switch, &[[L1_TABLE, 0, 0, 0]]);
         accepted(Read, guest_addresses())
     }),
     workload("read, section", 512, |scene| {
@@ -356,7 +413,7 @@ pub static CALLS: [Workload; 34] = [
 ];
 
 /// Calls whose time is that of hashing blocks.
-pub static HASHING_CALLS: [Workload; 3] = [
+pub static HASHING_CALLS: [Workload; 4] = [
     workload("create L2, 64 executable pages", 512, |scene| {
         scene.written_targets(TARGETS);
         accepted(CreateL2, vec![[L2_BLOCK, 0, 0, 0]])
@@ -369,6 +426,13 @@ pub static HASHING_CALLS: [Workload; 3] = [
         scene.tables();
         scene.sign_targets();
         accepted(MapL2, (0..TARGETS).map(|i| [L2_BLOCK, i, DATA + i, READ_EXECUTE]).collect())
+    }),
+    workload("map large, executable", 512, |scene| {
+        scene.tables();
+        scene.sign_targets();
+        let targets = TARGETS / LARGE_BLOCKS;
+        let words = (0..targets).map(|i| [L2_BLOCK, LARGE_BLOCKS * i, scene.sixteen(i), READ_EXECUTE]);
+        accepted(MapLarge, words.collect())
     }),
 ];
 

@@ -358,10 +358,9 @@ fn broken(word: u32, page: u32) -> impl Iterator<Item = Arrangement> {
         })
     });
     let other = word ^ 0x8;
-    let turns: [(&str, fn(usize) -> bool); 3] =
-        [("in turns", |k| k % 2 == 0), ("in halves", |k| k < 8), ("first and last alike", |k| k % 15 == 0)];
-    let turns = turns
-        .map(|(name, first)| Arrangement::new(name, (0..16).map(|k| (k, if first(k) { word } else { other })), &[]));
+    let turns = [("in turns", 0x5555), ("in halves", 0x00FF), ("first and last alike", 0x8001)].map(|(name, first)| {
+        Arrangement::new(name, (0..16).map(|k| (k, if first >> k & 1 == 1 { word } else { other })), &[])
+    });
     let own = (0..16).map(|k| (k, word + ((k as u32) << 12)));
     one.chain(turns).chain([Arrangement::new("the address of each block", own, &[])])
 }
