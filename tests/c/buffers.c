@@ -82,15 +82,27 @@ static const struct step script[] = {
     {PAGEMON_CALL_FETCH, {0x00005000}, PAGEMON_RIGHT_LACKING, 0},
     {PAGEMON_CALL_READ, {0x00009000}, PAGEMON_FAULT_ENTRY, 0},
     {PAGEMON_CALL_MAP_L2, {PAGES, 6, DATA, EXECUTES}, PAGEMON_CLASH, 0},
+    {PAGEMON_CALL_MAP_LARGE, {PAGES, 16, FIRST, EXECUTES}, PAGEMON_CLASH, 0}, /* DATA is one of the sixteen */
     {PAGEMON_CALL_MAP_L2, {PAGES, 6, DATA, PAGEMON_WRITE}, PAGEMON_UNLAWFUL_RIGHTS, 0},
     {PAGEMON_CALL_UNMAP_L2, {PAGES, 5}, PAGEMON_ACCEPTED, 0},
     {PAGEMON_CALL_MAP_L1, {TABLE, 4, FIRST, EXECUTES}, PAGEMON_UNSIGNED, 0}, /* DATA was written */
+    {PAGEMON_CALL_MAP_LARGE, {PAGES, 16, FIRST, EXECUTES}, PAGEMON_UNSIGNED, 0},
     {PAGEMON_CALL_MAP_L2, {PAGES, 5, DATA, WRITES}, PAGEMON_ACCEPTED, 0},
     {PAGEMON_CALL_WRITE, {0x00005000, 0}, PAGEMON_ACCEPTED, 0},
     {PAGEMON_CALL_UNMAP_L2, {PAGES, 5}, PAGEMON_ACCEPTED, 0},
     {PAGEMON_CALL_MAP_L1, {TABLE, 4, FIRST, EXECUTES}, PAGEMON_ACCEPTED, 0}, /* 256 blocks are hashed */
     {PAGEMON_CALL_FETCH, {0x00408FFF}, PAGEMON_ACCEPTED, 0x1E},
     {PAGEMON_CALL_UNMAP_L1, {TABLE, 4}, PAGEMON_ACCEPTED, 0},
+    {PAGEMON_CALL_MAP_LARGE, {PAGES, 17, FIRST, EXECUTES}, PAGEMON_MISALIGNED, 0},
+    {PAGEMON_CALL_MAP_LARGE, {PAGES, PAGEMON_L2_ENTRIES, FIRST, EXECUTES}, PAGEMON_BEYOND_TABLE, 0},
+    {PAGEMON_CALL_MAP_LARGE, {PAGES, PAGEMON_L2_ENTRIES - 16, FIRST, EXECUTES}, PAGEMON_WRONG_ENTRY, 0}, /* the last one is a page */
+    {PAGEMON_CALL_MAP_LARGE, {PAGES, 16, FIRST, EXECUTES}, PAGEMON_ACCEPTED, 0},                         /* 16 blocks are hashed */
+    {PAGEMON_CALL_FETCH, {0x00018FFF}, PAGEMON_ACCEPTED, 0x1E},
+    {PAGEMON_CALL_READ, {0x0001FFFF}, PAGEMON_ACCEPTED, 0},
+    {PAGEMON_CALL_UNMAP_L2, {PAGES, 31}, PAGEMON_WRONG_ENTRY, 0},
+    {PAGEMON_CALL_UNMAP_LARGE, {PAGES, 31}, PAGEMON_MISALIGNED, 0},
+    {PAGEMON_CALL_UNMAP_LARGE, {PAGES, 16}, PAGEMON_ACCEPTED, 0},
+    {PAGEMON_CALL_UNMAP_LARGE, {PAGES, 16}, PAGEMON_WRONG_ENTRY, 0},
     {PAGEMON_CALL_FREE_L2, {PAGES}, PAGEMON_IN_USE, 0},
     {PAGEMON_CALL_UNMAP_L1, {TABLE, 0}, PAGEMON_ACCEPTED, 0},
     {PAGEMON_CALL_UNMAP_L1, {TABLE, PAGEMON_L1_ENTRIES - 1}, PAGEMON_ACCEPTED, 0},
@@ -208,6 +220,8 @@ static uint32_t by_call(const struct lent *lent, const struct step *step, uint8_
     case PAGEMON_CALL_SWITCH: return pagemon_switch(REGION, a[0]);
     case PAGEMON_CALL_READ: return pagemon_read(REGION, a[0], byte);
     case PAGEMON_CALL_WRITE: return pagemon_write(REGION, a[0], a[1]);
+    case PAGEMON_CALL_MAP_LARGE: return pagemon_map_large(REGION, IMAGE, a[0], a[1], a[2], a[3]);
+    case PAGEMON_CALL_UNMAP_LARGE: return pagemon_unmap_large(REGION, a[0], a[1]);
     default: return pagemon_fetch(REGION, a[0], byte);
     }
 }
@@ -228,7 +242,8 @@ static bool gives_byte(uint8_t call)
 
 static bool takes_image(uint8_t call)
 {
-    return call == PAGEMON_CALL_CREATE_L1 || call == PAGEMON_CALL_CREATE_L2 || call == PAGEMON_CALL_MAP_L1 || call == PAGEMON_CALL_MAP_L2;
+    return call == PAGEMON_CALL_CREATE_L1 || call == PAGEMON_CALL_CREATE_L2 || call == PAGEMON_CALL_MAP_L1 || call == PAGEMON_CALL_MAP_L2
+           || call == PAGEMON_CALL_MAP_LARGE;
 }
 
 static void script_by_calls(const struct buffers *b)
@@ -273,7 +288,7 @@ static void plain_script(void)
         expect(plain.at[BYTES][i] == script[i].byte, "byte of step", "plain buffers", i);
         accepted |= (answer == PAGEMON_ACCEPTED) << script[i].call;
     }
-    expect(accepted == 0x7FFE, "not every call was accepted:", "plain buffers", accepted);
+    expect(accepted == 0x1FFFE, "not every call was accepted:", "plain buffers", accepted);
 }
 
 static void expect_plain(const struct buffers *b, const char *where, size_t number)
@@ -431,6 +446,7 @@ static const struct step setup[] = {
     {PAGEMON_CALL_SWITCH, {TABLE}, 0, 0},
     {PAGEMON_CALL_LINK, {TABLE, 0, PAGES, 0}, 0, 0},
     {PAGEMON_CALL_MAP_L2, {PAGES, 5, WRITTEN, WRITES}, 0, 0},
+    {PAGEMON_CALL_MAP_LARGE, {PAGES, 32, FIRST, READS}, 0, 0},
 };
 
 /* Each call, as it is accepted there. Those that take an image have something to execute. */
@@ -449,6 +465,8 @@ static const struct step each_call[] = {
     {PAGEMON_CALL_READ, {0xFFFFFFFF}, 0, 0x5A},
     {PAGEMON_CALL_WRITE, {0x00005000, 65}, 0, 0},
     {PAGEMON_CALL_FETCH, {0x00000123}, 0, 0x1E},
+    {PAGEMON_CALL_MAP_LARGE, {PAGES, 16, FIRST, EXECUTES}, 0, 0},
+    {PAGEMON_CALL_UNMAP_LARGE, {PAGES, 32}, 0, 0},
 };
 
 enum { SETUP = sizeof setup / sizeof setup[0], CALLS = sizeof each_call / sizeof each_call[0] };
@@ -569,7 +587,7 @@ static void long_image(void)
 static void empty_buffers(uint8_t *nowhere, const char *where)
 {
     const struct step reads[] = {{PAGEMON_CALL_MAP_L1, {TABLE, 4, FIRST, READS}, 0, 0}, {PAGEMON_CALL_MAP_L2, {PAGES, 9, DATA, READS}, 0, 0},
-                                 {PAGEMON_CALL_CREATE_L2, {DATA}, 0, 0}};
+                                 {PAGEMON_CALL_CREATE_L2, {DATA}, 0, 0}, {PAGEMON_CALL_MAP_LARGE, {PAGES, 16, FIRST, READS}, 0, 0}};
     struct lent lent = right;
     lent.golden = nowhere, lent.golden_length = 0;
     every_call(&lent, PAGEMON_UNSIGNED, PAGEMON_ACCEPTED, where);

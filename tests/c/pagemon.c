@@ -100,6 +100,30 @@ static void left_by_sample(void)
     expect(canaries(ledger_place, ledger_length), "a byte outside of the ledger was changed");
 }
 
+/* A large page over all blocks, which can be read at the indices 16 to 31, and its calls. */
+static void a_large_page(void)
+{
+    const uint8_t *run = memory + 4 * PAGEMON_BLOCK_BYTES + 4 * 16;
+    uint8_t byte = 0xA7;
+    expect_answer(pagemon_map_large(memory, memory_length, ledger, ledger_length, golden, 0, 4, 16, 0, PAGEMON_READ | PAGEMON_WRITE),
+                  PAGEMON_UNFIT_TARGET, "map large over tables to write");
+    expect_answer(pagemon_map_large(memory, memory_length, ledger, ledger_length, golden, 0, 4, 0, 0, PAGEMON_READ), PAGEMON_WRONG_ENTRY,
+                  "map large over a page");
+    expect_answer(pagemon_map_large(memory, memory_length, ledger, ledger_length, golden, 0, 4, 16, 0, PAGEMON_READ), PAGEMON_ACCEPTED,
+                  "map large");
+    for (size_t i = 0; i < PAGEMON_LARGE_BLOCKS; i++) {
+        expect(word(run + 4 * i) == 0x0000802D, "a large page's word");
+    }
+    expect_answer(pagemon_read(memory, memory_length, ledger, ledger_length, 0x18000, &byte), PAGEMON_ACCEPTED, "read by a large page");
+    expect(byte == 65, "the byte read by a large page is not 65");
+    expect_answer(pagemon_unmap_l2(memory, memory_length, ledger, ledger_length, 4, 24), PAGEMON_WRONG_ENTRY, "unmap L2 of a large page");
+    expect_answer(pagemon_unmap_large(memory, memory_length, ledger, ledger_length, 4, 24), PAGEMON_MISALIGNED, "unmap large at index 24");
+    expect_answer(pagemon_unmap_large(memory, memory_length, ledger, ledger_length, 4, 16), PAGEMON_ACCEPTED, "unmap large");
+    for (size_t i = 0; i < PAGEMON_LARGE_BLOCKS; i++) {
+        expect(word(run + 4 * i) == 0, "a word of a large page that is gone");
+    }
+}
+
 /* The calls that the sample leaves out. */
 static void the_other_calls(void)
 {
@@ -123,6 +147,8 @@ static void bad_buffers(void)
     expect_answer(pagemon_begin(memory, memory_length, ledger, ledger_length, 255), PAGEMON_MISFIT, "a B of 255");
     expect_answer(pagemon_map_l2(memory, memory_length, ledger, ledger_length, golden, 1, 4, 5, 8, PAGEMON_READ), PAGEMON_MISFIT,
                   "a golden image of one byte");
+    expect_answer(pagemon_map_large(memory, memory_length, ledger, ledger_length, golden, 1, 4, 16, 0, PAGEMON_READ), PAGEMON_MISFIT,
+                  "a golden image of one byte for a large page");
     expect_answer(pagemon_read(memory, 0, ledger, 0, 0, &byte), PAGEMON_MISFIT, "no memory");
     expect(byte == 0, "a refused read gave another byte than 0");
 }
@@ -130,6 +156,8 @@ static void bad_buffers(void)
 int main(void)
 {
     sample();
+    left_by_sample();
+    a_large_page();
     left_by_sample();
     the_other_calls();
     bad_buffers();

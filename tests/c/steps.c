@@ -144,7 +144,7 @@ static void bad_records(void)
     static const struct {
         size_t at;
         uint8_t byte;
-    } bad[] = {{0, PAGEMON_SECOND_MARK}, {1, PAGEMON_FIRST_MARK}, {2, 0}, {2, PAGEMON_CALL_FETCH + 1}, {2, 255}};
+    } bad[] = {{0, PAGEMON_SECOND_MARK}, {1, PAGEMON_FIRST_MARK}, {2, 0}, {2, PAGEMON_CALL_UNMAP_LARGE + 1}, {2, 255}};
     for (size_t place = 0; place < STEPS; place++) {
         for (size_t i = 0; i < sizeof bad / sizeof bad[0]; i++) {
             start();

@@ -71,6 +71,33 @@ fn refused_calls_count_as_obeyed() {
     assert_eq!(printed(&[&refused[..], &[0]].concat()), "1 1\n11 3\n14 22\nbad 3\n");
 }
 
+/// Call bytes 15 and 16 are those of large pages, and 17 is no call.
+#[test]
+fn calls_of_large_pages() {
+    let calls = [
+        (Begin, &[0][..], "1 0"),
+        (CreateL1, &[0], "2 0"),
+        (CreateL2, &[4], "3 0"),
+        (Link, &[0, 0, 4, 0], "8 0"),
+        (Switch, &[0], "11 0"),
+        (MapLarge, &[4, 16, 0, 1], "15 0"),
+        (MapLarge, &[4, 16, 0, 1], "15 8"),
+        (MapLarge, &[4, 32, 0, 3], "15 10"),
+        (MapLarge, &[4, 1025, 0, 1], "15 3"),
+        (Read, &[0x14040], "12 0 45"),
+        (UnmapL2, &[4, 31], "10 8"),
+        (UnmapLarge, &[4, 16], "16 0"),
+        (UnmapLarge, &[4, 16], "16 8"),
+        (Read, &[0x14040], "12 22"),
+    ];
+    let mut input = records(&calls.map(|(kind, arguments, _)| Call::new(kind, arguments)));
+    let mut unlisted = Call::new(UnmapLarge, &[4, 16]).record();
+    unlisted[2] = 17;
+    input.extend(unlisted);
+    let expected = calls.map(|(.., line)| line.to_string() + "\n").concat() + "bad 14\n";
+    assert_eq!(printed(&input), expected);
+}
+
 /// The words that a call does not use, and the high bits of the byte that is written.
 #[test]
 fn spare_words_may_hold_anything() {

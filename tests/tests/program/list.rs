@@ -67,10 +67,10 @@ impl List {
     }
 }
 
-/// A call on the page that the sample writes, on a page and a table that come and go, or one that is refused.
+/// A call on the page that the sample writes, on a page, a large page and a table that come and go, or one that is refused.
 fn draw_after_sample(random: &mut Random) -> Call {
     let (place, byte) = (random.below(4) as u32, random.below(256) as u32);
-    let choices: [(Kind, &[u32]); 12] = [
+    let choices: [(Kind, &[u32]); 16] = [
         (Write, &[0x5000 + place, byte]),
         (Read, &[0x5000 + place]),
         (Fetch, &[0x5000 + place]),
@@ -79,6 +79,10 @@ fn draw_after_sample(random: &mut Random) -> Call {
         (MapL2, &[4, 6, 8, 3]),
         (Write, &[0x6000 + place, byte]),
         (UnmapL2, &[4, 6]),
+        (MapLarge, &[4, 16, 0, 1]),
+        (Read, &[0x18000 + place]),
+        (UnmapLarge, &[4, 16]),
+        (UnmapL2, &[4, 16 + place]),
         (CreateL2, &[12]),
         (FreeL2, &[12]),
         (Switch, &[1]),
