@@ -96,7 +96,8 @@ impl About {
         matches!(self.kind, Read | Write | Fetch)
     }
 
-    /// The L2 block, of the type that the call needs. The guest has an active L1 table with a link to each of its four tables, from entry 0 on.
+    /// The L2 block, of the type that the call needs. The guest has an active L1 table with a link to each of its four tables, from entry 0 on, and in its
+    /// last entry to the last of them.
     fn scene(&self, blocks: usize) -> Scene {
         let mut scene = Scene::new(FIRST, blocks);
         scene.store.golden = zero_digest().to_vec();
@@ -105,6 +106,7 @@ impl About {
             scene.set_types(0..4, 1);
             scene.activate(0);
             (0..4).for_each(|table| scene.put(0, table, scene.link(PAGE_TABLE, table as u32)));
+            scene.put(3, 1023, scene.link(PAGE_TABLE, 3));
         }
         scene
     }
@@ -248,7 +250,7 @@ impl About {
         Ok(())
     }
 
-    /// Walks through each entry of a large page, to both ends of its block. All blocks differ.
+    /// Walks through each entry of a large page, to both ends of its block, and at the end of the address range. All blocks differ.
     fn positions(&self, comparer: &mut Comparer) -> Outcome {
         let mut random = Random::new(50);
         let mut empty = self.scene(48);
@@ -266,6 +268,14 @@ impl About {
             for index in [run.wrapping_sub(1), run + 16].into_iter().filter(|index| *index < 1024) {
                 comparer.check(self.case(&scene, "beside a large page", index, Some(22)))?;
             }
+        }
+        empty.put_run(PAGE_TABLE, LAST_RUN, empty.mapping(LARGE, LARGE_ALL));
+        for (address, answer) in
+            [(0xFFFE_FFFF, 22), (0xFFFF_0000, 0), (0xFFFF_EFFF, 0), (0xFFFF_F000, 0), (u32::MAX, 0)]
+        {
+            let arguments = [address, 0x77];
+            let name = "a large page at the last addresses";
+            comparer.check(empty.expect(name, self.kind, &arguments[..self.kind.arity()], answer))?;
         }
         Ok(())
     }
