@@ -224,11 +224,12 @@ pub fn begin(memory: &[u8], ledger: &mut [u8], first: u32) -> u32 {
     0
 }
 
-/// A table's level: its blocks, its type, and what its words mean, a large page's sixteen together.
+/// A table's level: its blocks, its type, whether sixteen words may be one large page, and what a word means otherwise.
 trait Level {
     const BLOCKS: u32;
     const TYPE: u32;
-    fn each_entry(table: &[u8], take: impl FnMut(Entry) -> Judged) -> Judged;
+    const LARGE_PAGES: bool;
+    fn entry(word: u32) -> Entry;
 }
 
 struct Sections;
@@ -237,25 +238,20 @@ struct Pages;
 impl Level for Sections {
     const BLOCKS: u32 = L1_BLOCKS;
     const TYPE: u32 = L1;
+    const LARGE_PAGES: bool = false;
     #[inline(always)]
-    fn each_entry(table: &[u8], mut take: impl FnMut(Entry) -> Judged) -> Judged {
-        table.as_chunks().0.iter().try_for_each(|bytes| take(l1_entry(u32::from_le_bytes(*bytes))))
+    fn entry(word: u32) -> Entry {
+        l1_entry(word)
     }
 }
 
 impl Level for Pages {
     const BLOCKS: u32 = 1;
     const TYPE: u32 = L2;
+    const LARGE_PAGES: bool = true;
     #[inline(always)]
-    fn each_entry(table: &[u8], mut take: impl FnMut(Entry) -> Judged) -> Judged {
-        for run in table.as_chunks().0 {
-            if run[0] & 3 == 1 {
-                take(large_entry(run))?;
-            } else {
-                run.as_chunks().0.iter().try_for_each(|bytes| take(l2_entry(u32::from_le_bytes(*bytes))))?;
-            }
-        }
-        Ok(())
+    fn entry(word: u32) -> Entry {
+        l2_entry(word)
     }
 }
 
@@ -263,6 +259,11 @@ impl Level for Pages {
 #[inline(always)]
 fn table_bytes<V: Level>(memory: &[u8], b: usize) -> &[u8] {
     &memory[BLOCK * b..BLOCK * (b + V::BLOCKS as usize)]
+}
+
+#[inline(always)]
+fn words(bytes: &[u8]) -> impl Iterator<Item = u32> + '_ {
+    bytes.as_chunks().0.iter().map(|bytes| u32::from_le_bytes(*bytes))
 }
 
 /// What a table's entries give to each block. Record b of the scratch bytes has the counts of block b in the places of the ledger's record;
@@ -364,29 +365,48 @@ impl New {
         b: usize,
         counts: &mut Counts,
     ) -> Judged {
-        V::each_entry(table_bytes::<V>(memory, b), |entry| {
-            match entry {
-                Entry::Fault => {}
-                Entry::Unaccepted => return Err(8),
-                Entry::Link(place) => match region.place(place / 4, 1) {
-                    Some(t) => self.link(t, ledger, counts),
-                    None => self.refuse_if(true, 10),
-                },
-                Entry::Mapping(first, m, rights) => match region.place(first, m) {
-                    Some(t) => {
-                        if rights & WRITE != 0 {
-                            self.refuse_if(first < block + V::BLOCKS && block < first + m, 10);
-                            (t..t + m as usize).for_each(|t| self.written(t, ledger, counts));
-                        }
-                        if rights & EXECUTE != 0 {
-                            (t..t + m as usize).for_each(|t| self.executed(t, ledger, counts));
-                        }
-                    }
-                    None => self.refuse_if(true, 10),
-                },
+        for run in table_bytes::<V>(memory, b).as_chunks().0 {
+            if V::LARGE_PAGES && run[0] & 3 == 1 {
+                self.add::<V>(large_entry(run), ledger, region, block, counts)?;
+                continue;
             }
-            Ok(())
-        })
+            for word in words(run) {
+                self.add::<V>(V::entry(word), ledger, region, block, counts)?;
+            }
+        }
+        Ok(())
+    }
+
+    #[inline(always)]
+    fn add<V: Level>(
+        &mut self,
+        entry: Entry,
+        ledger: &[Record],
+        region: Region,
+        block: u32,
+        counts: &mut Counts,
+    ) -> Judged {
+        match entry {
+            Entry::Fault => {}
+            Entry::Unaccepted => return Err(8),
+            Entry::Link(place) => match region.place(place / 4, 1) {
+                Some(t) => self.link(t, ledger, counts),
+                None => self.refuse_if(true, 10),
+            },
+            Entry::Mapping(first, m, rights) => match region.place(first, m) {
+                Some(t) => {
+                    if rights & WRITE != 0 {
+                        self.refuse_if(first < block + V::BLOCKS && block < first + m, 10);
+                        (t..t + m as usize).for_each(|t| self.written(t, ledger, counts));
+                    }
+                    if rights & EXECUTE != 0 {
+                        (t..t + m as usize).for_each(|t| self.executed(t, ledger, counts));
+                    }
+                }
+                None => self.refuse_if(true, 10),
+            },
+        }
+        Ok(())
     }
 
     /// Refusals 10 to 13.
@@ -481,28 +501,40 @@ pub fn create_l2(memory: &[u8], ledger: &mut [u8], golden: &[u8], scratch: &mut 
 #[inline(always)]
 fn count_old<V: Level>(memory: &[u8], region: Region, b: usize, counts: &mut Counts) -> Judged {
     let mut inside = true;
-    V::each_entry(table_bytes::<V>(memory, b), |entry| {
-        match entry {
-            Entry::Fault => {}
-            Entry::Unaccepted => return Err(8),
-            Entry::Link(place) => match region.place(place / 4, 1) {
-                Some(t) => _ = counts.add(t, L),
-                None => inside = false,
-            },
-            Entry::Mapping(first, m, rights) => match region.place(first, m) {
-                Some(t) => {
-                    for (right, k) in [(WRITE, W), (EXECUTE, X)] {
-                        if rights & right != 0 {
-                            (t..t + m as usize).for_each(|t| _ = counts.add(t, k));
-                        }
+    for run in table_bytes::<V>(memory, b).as_chunks().0 {
+        if V::LARGE_PAGES && run[0] & 3 == 1 {
+            inside &= add_old(large_entry(run), region, counts)?;
+            continue;
+        }
+        for word in words(run) {
+            inside &= add_old(V::entry(word), region, counts)?;
+        }
+    }
+    refuse_if(!inside, 10)
+}
+
+/// Is the entry's place inside? Refusal 8 is given at once.
+#[inline(always)]
+fn add_old(entry: Entry, region: Region, counts: &mut Counts) -> Judged<bool> {
+    match entry {
+        Entry::Fault => {}
+        Entry::Unaccepted => return Err(8),
+        Entry::Link(place) => match region.place(place / 4, 1) {
+            Some(t) => _ = counts.add(t, L),
+            None => return Ok(false),
+        },
+        Entry::Mapping(first, m, rights) => match region.place(first, m) {
+            Some(t) => {
+                for (right, k) in [(WRITE, W), (EXECUTE, X)] {
+                    if rights & right != 0 {
+                        (t..t + m as usize).for_each(|t| _ = counts.add(t, k));
                     }
                 }
-                None => inside = false,
-            },
-        }
-        Ok(())
-    })?;
-    refuse_if(!inside, 10)
+            }
+            None => return Ok(false),
+        },
+    }
+    Ok(true)
 }
 
 /// Refusal 13 of the counted blocks.
