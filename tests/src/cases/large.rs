@@ -9,42 +9,35 @@ use Kind::*;
 
 pub fn run(kind: Kind, comparer: &mut Comparer) -> Outcome {
     let about = About { kind };
+    if matches!(kind, CreateL1 | FreeL1 | MapL1 | Link | UnmapL1) {
+        return Ok(());
+    }
+    about.arrangements(comparer)?;
+    if matches!(kind, CreateL2 | FreeL2 | UnmapLarge | Read | Write | Fetch) {
+        about.forms(comparer)?;
+        about.places(comparer)?;
+    }
+    if matches!(kind, CreateL2 | FreeL2 | UnmapLarge) {
+        about.counters(comparer)?;
+    }
+    if matches!(kind, MapLarge | UnmapLarge) {
+        indices(kind, comparer)?;
+        holders(kind, comparer)?;
+    }
     match kind {
-        CreateL2 | FreeL2 => {
-            about.arrangements(comparer)?;
-            about.forms(comparer)?;
-            about.places(comparer)?;
-            about.counters(comparer)?;
-            if kind == CreateL2 {
-                same_blocks(comparer)?;
-                own_block(comparer)?;
-                one_of_sixteen(CreateL2, comparer)?;
-            }
-            Ok(())
+        CreateL2 => {
+            same_blocks(comparer)?;
+            own_block(comparer)?;
+            one_of_sixteen(kind, comparer)
         }
-        MapL2 | UnmapL2 => about.arrangements(comparer),
         MapLarge => {
-            about.arrangements(comparer)?;
-            indices(MapLarge, comparer)?;
-            holders(MapLarge, comparer)?;
             entries_to_be_mapped(comparer)?;
             targets(comparer)?;
             holder_among_targets(comparer)?;
-            one_of_sixteen(MapLarge, comparer)
+            one_of_sixteen(kind, comparer)
         }
-        UnmapLarge => {
-            about.arrangements(comparer)?;
-            about.forms(comparer)?;
-            about.places(comparer)?;
-            about.counters(comparer)?;
-            indices(UnmapLarge, comparer)?;
-            holders(UnmapLarge, comparer)?;
-            no_large_pages(comparer)
-        }
+        UnmapLarge => no_large_pages(comparer),
         Read | Write | Fetch => {
-            about.arrangements(comparer)?;
-            about.forms(comparer)?;
-            about.places(comparer)?;
             about.positions(comparer)?;
             about.random_runs(comparer)
         }
@@ -96,8 +89,8 @@ impl About {
         matches!(self.kind, Read | Write | Fetch)
     }
 
-    /// The L2 block, of the type that the call needs. The guest has an active L1 table with a link to each of its four tables, from entry 0 on, and in its
-    /// last entry to the last of them.
+    /// The L2 block, of the type that the call needs. The guest has an active L1 table with a link to each of its four tables, from entry 0 on, and in
+    /// its last entry to the last of them.
     fn scene(&self, blocks: usize) -> Scene {
         let mut scene = Scene::new(FIRST, blocks);
         scene.store.golden = zero_digest().to_vec();
