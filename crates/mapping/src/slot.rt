@@ -85,7 +85,7 @@ pub fn is_occupied(
     false
 }
 
-// The m words from word j on become w. Most mappings have one: without the loop, which is compiled to a call of memset where w is 0.
+// The m words from word j on become w. Most mappings have one, which is stored without the loop.
 fn fill_words(memory: &mut [u8], j: usize, m: usize, w: u32)
     requires { ⌜ 4 * (j + m) ≤ length (now memory) ⌝ }
     ensures { λ r. ⌜ now (memory .exit) ≡ fill (now (memory .entry)) j m (λ k. w) ⌝ }
