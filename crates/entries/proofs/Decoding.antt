@@ -31,7 +31,7 @@ pub pageForm-bit : (w : ℕ) → isPageForm w ≡ true → bits w 1 1 ≡ 1
 unfolding isPageForm
 pageForm-bit w h = eqb-true (bits w 1 1) 1 (and-true-left (eqb (bits w 1 1) 1) (acceptedAP (pageAP w)) h)
 
-pub largeForm-bits : (w : ℕ) → isLargeForm w ≡ true → bits w 0 2 ≡ 0b01
+largeForm-bits : (w : ℕ) → isLargeForm w ≡ true → bits w 0 2 ≡ 0b01
 unfolding isLargeForm
 largeForm-bits w h =
     let form = eqb (bits w 0 2) 0b01 in
@@ -91,7 +91,7 @@ module _ (w : ℕ) where
   unfolding wordCode l2Entry codeOf
   wordCode-fault h = rw h refl
 
-  pub wordCode-page : bits w 1 1 ≡ 1 → wordCode w ≡ cond (isPageForm w) (8 + rightsOf (pageAP w) (pageXN w)) 7
+  wordCode-page : bits w 1 1 ≡ 1 → wordCode w ≡ cond (isPageForm w) (8 + rightsOf (pageAP w) (pageXN w)) 7
   unfolding wordCode
   wordCode-page h = ap codeOf (by-page-tests true 0 h) ∙ code-of-page _ _ (first + 0) (rightsOf (pageAP w) (largeXN w)) (isPageForm w)
 
@@ -118,7 +118,7 @@ module _ (w : ℕ) where
         let one = largeForm-bits w h in
         rw (ne-eqb (bits w 0 2) 0 (λ z. omega arith), no-page w (λ z. omega arith), h) refl
 
-    pub l2Entry-neither : (run : Bool) → bits w 0 2 ≢ 0b00 → isPageForm w ≡ false → (isLargeForm w && run) ≡ false → l2Entry run k w ≡ unaccepted
+    l2Entry-neither : (run : Bool) → bits w 0 2 ≢ 0b00 → isPageForm w ≡ false → (isLargeForm w && run) ≡ false → l2Entry run k w ≡ unaccepted
     unfolding l2Entry
     l2Entry-neither run h p q = rw (ne-eqb (bits w 0 2) 0 h, p, q) refl
 
@@ -223,7 +223,7 @@ module _ (mem : List ℕ) (j w : ℕ) (is : w ≡ word mem (4 * j)) where
   unfolding entryAt
   entryAt-unaccepted h p q = sym (l2Entry-neither w (j % runWords) (isRun mem j) h p q) ∙ ap (l2Entry (isRun mem j) (j % runWords)) is
 
--- no page stands in an L1 table, and no link and no section in an L2 table
+-- no page, large or not, stands in an L1 table, and no link and no section in an L2 table
 cond-not : (q : Entry → Bool) (t : Bool) (e f : Entry) → q e ≡ false → q f ≡ false → q (cond t e f) ≡ false
 cond-not q true e f h k = h
 cond-not q false e f h k = k
@@ -314,6 +314,16 @@ module _ (mem : List ℕ) (j : ℕ) where
   isRun-word h k l =
       eqb-true _ _ (not-false _ (any-none (λ k. neqb (runWord mem j k) (word mem (4 * j))) runWords (not-true _ h) k l))
 
+-- sixteen equal words from a multiple of 16 on, each read at its position in a run
+pub entryAt-run : (mem : List ℕ) (j w : ℕ) → j % runWords ≡ 0 → ((k : ℕ) → k < runWords → word mem (4 * (j + k)) ≡ w)
+    → (k : ℕ) → k < runWords → entryAt l2 mem (j + k) ≡ l2Entry true k w
+unfolding entryAt
+entryAt-run mem j w aligned one k l =
+    let at : runWords * ((j + k) / runWords) ≡ j = omega arith in
+    let position : (j + k) % runWords ≡ k = omega arith in
+    let run : isRun mem (j + k) ≡ true = isRun-all mem (j + k) (λ i m. rw at (one i m) ∙ sym (one k l)) in
+    rw (run, position, one k l) refl
+
 -- the sixteen words of an aligned run are a large page together, if the first of them is an entry of one
 pub large-run : (mem : List ℕ) (j : ℕ) → j % runWords ≡ 0 → isLarge (entryAt l2 mem j) ≡ true
     → (b : ℕ) × (r : ℕ) × (b % largeBlocks ≡ 0) × ((k : ℕ) → k < runWords → entryAt l2 mem (j + k) ≡ large (b + k) r)
@@ -336,8 +346,4 @@ large-run mem j aligned h = (largeBlocks * bits w 16 16, rightsOf (pageAP w) (la
   one k l = let at : runWords * (j / runWords) ≡ j = omega arith in rw at at (isRun-word mem j (is .1) k l)
 
   each : (k : ℕ) → k < runWords → entryAt l2 mem (j + k) ≡ large (largeBlocks * bits w 16 16 + k) (rightsOf (pageAP w) (largeXN w))
-  each k l =
-      let at : runWords * ((j + k) / runWords) ≡ j = omega arith in
-      let position : (j + k) % runWords ≡ k = omega arith in
-      let run : isRun mem (j + k) ≡ true = isRun-all mem (j + k) (λ i m. rw at (one i m) ∙ sym (one k l)) in
-      rw (run, position, one k l) (l2Entry-large w k (is .0))
+  each k l = entryAt-run mem j w aligned one k l ∙ l2Entry-large w k (is .0)

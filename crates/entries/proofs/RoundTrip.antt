@@ -15,7 +15,7 @@ use Rattle.entries.specs.Rights.{mayRead, mayWrite, mayExecute, rightsOf
 use Rattle.entries.specs.Entries.{Entry, fault, link, section, page, large, Level, l1, l2, sectionAP, sectionXN, pageAP, pageXN, largeXN, isLinkForm, isSectionForm, isPageForm, isLargeForm, l1Entry, l2Entry, sectionBlocks, largeBlocks, runWords, isRun, entryAt}
 use Rattle.entries.specs.Written.{pageBits, sectionBits, largeBits, wordOf}
 use Rattle.entries.specs.Needs.{IsBlock, IsSectionStart, IsLargeStart, IsTablePlace}
-use Rattle.entries.proofs.Decoding.{l2Entry-page, l2Entry-large, isPageForm-low, pageRights-low, isLargeForm-low, largeRights-low, l1Entry-link, l1Entry-section, isSectionForm-low, sectionRights-low, isRun-all}
+use Rattle.entries.proofs.Decoding.{l2Entry-page, l2Entry-large, isPageForm-low, pageRights-low, isLargeForm-low, largeRights-low, l1Entry-link, l1Entry-section, isSectionForm-low, sectionRights-low, entryAt-run}
 
 -- the rights with which a mapping is written (entries 15)
 pub data Grantable : ℕ → Type 0 where
@@ -148,8 +148,7 @@ module _ (kind : ℕ) where
       let whole : 2 ^ 12 * b ≡ 2 ^ 20 * (b / sectionBlocks) = omega arith in
       let start : sectionBlocks * (b / sectionBlocks) ≡ b = omega arith in
       let isForm : isSectionForm w ≡ true = sym (isSectionForm-low w) ∙ ap isSectionForm below ∙ form in
-      let rights : rightsOf (sectionAP w) (sectionXN w) ≡ r =
-      sym (sectionRights-low w) ∙ ap (λ n. rightsOf (sectionAP n) (sectionXN n)) below ∙ granted in
+      let rights : sectionRights w ≡ r = sym (sectionRights-low w) ∙ ap sectionRights below ∙ granted in
       rw whole (l1Entry-section w isForm ∙ ap₂ section (ap (λ n. sectionBlocks * n) place ∙ start) rights)
 
   pub link-reads-back : {p : ℕ} → IsTablePlace p → l1Entry (wordOf kind (link p)) ≡ link p
@@ -191,12 +190,8 @@ module _ (kind : ℕ) where
 
   pub written-reads-back : (mem : List ℕ) {v : Level} {j m : ℕ} {e : ℕ → Entry} → Encodable v j m e → ((k : ℕ) → k < m → word mem (4 * (j + k)) ≡ wordOf kind (e k))
       → (k : ℕ) → k < m → entryAt v mem (j + k) ≡ e k
-  unfolding entryAt
   written-reads-back mem {j = j} (singly x) h k l = single-reads-back mem (j + k) (x k l) (h k l)
   written-reads-back mem {j = j} (in-run {b = b} {r = r} a start g is) h k l =
       let w = wordOf kind (large b r) in
       let one : (i : ℕ) → i < runWords → word mem (4 * (j + i)) ≡ w = λ i l. h i l ∙ ap (wordOf kind) (is i) ∙ large-word b r i (start .1) l in
-      let at : runWords * ((j + k) / runWords) ≡ j = omega arith in
-      let run : isRun mem (j + k) ≡ true = isRun-all mem (j + k) (λ i m. rw at (one i m) ∙ sym (one k l)) in
-      let position : (j + k) % runWords ≡ k = omega arith in
-      rw (run, position, one k l) (large-reads-back start g k) ∙ sym (is k)
+      entryAt-run mem j w a one k l ∙ large-reads-back start g k ∙ sym (is k)

@@ -211,7 +211,7 @@ placeBlocks (section b r) = sectionBlocks
 placeBlocks (page b r) = 1
 placeBlocks (large b r) = largeBlocks
 
--- entries 18: the first block that an entry covers; no meaning where it covers none
+-- entries 18: the first block that an entry covers, as of its place but for a large page; no meaning where it covers none
 unfoldable pub coverFirst : Entry → ℕ
 coverFirst fault = 0
 coverFirst unaccepted = 0

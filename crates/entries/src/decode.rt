@@ -34,7 +34,7 @@ const UNACCEPTED_CODE: u8 = 7;
 
 const LEAST_ACCEPTED: u8 = 8;
 
-const RUN_WORDS: usize = 16;
+const RUN_WORDS: usize = crate::entry::RUN_WORDS as usize;
 
 // The access bits of a section (entries 7).
 fn section_ap(w: u32) -> u32
@@ -153,7 +153,7 @@ fn large_code(w: u32) -> u8
     LEAST_ACCEPTED + rights_of(page_ap(w), words::bits(w, 15, 1)) as u8
 }
 
-// The page rights of an L2 word (entries 13). The table has those of pages; low bits 01 are 6 there, which is to look at the whole word.
+// The page rights of an L2 word (entries 13). The table has those of pages; for low bits 01 it has 6, since bits 9..0 do not decide there.
 pub fn word_code(w: u32) -> u8
     ensures { λ r. ⌜ r ≡ wordCode w ⌝ }
 {
@@ -232,7 +232,7 @@ pub fn l1_entry_at(mem: &[u8], j: usize) -> Entry
     l1_entry(words::word(mem, WORD_BYTES * j))
 }
 
-// Word j of the memory, read as an entry of an L2 table.
+// Word j of the memory, read as an entry of an L2 table. By `entry_of`, which is then compiled once, and not into the loops that call `entry_at`.
 pub fn l2_entry_at(mem: &[u8], j: usize) -> Entry
     requires { ⌜ HoldsRun (now mem) j ⌝ }
     ensures { λ r. ⌜ meaning r ≡ entryAt l2 (now (mem .entry)) j ⌝ }

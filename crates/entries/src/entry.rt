@@ -32,6 +32,9 @@ pub const SECTION_BLOCKS: u32 = 256;
 
 pub const LARGE_BLOCKS: u32 = 16;
 
+// The words of a run, one for each block of a large page (entries 21).
+pub const RUN_WORDS: u32 = 16;
+
 pub fn is_fault(e: Entry) -> bool
     ensures { λ r. ⌜ r ≡ isFault (meaning e) ⌝ }
 {
@@ -151,7 +154,7 @@ pub fn place_blocks(e: Entry) -> u32
     }
 }
 
-// The first of the blocks on which the entry counts (entries 18).
+// The first of the blocks on which the entry counts (entries 18): as of its place, but for a large page.
 pub fn cover_first(e: Entry) -> u32
     ensures { λ r. ⌜ r ≡ coverFirst (meaning e) ⌝ }
 {

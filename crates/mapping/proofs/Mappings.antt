@@ -19,13 +19,14 @@ use Rattle.rules.proofs.Refusals.{Passed, passed, now, rest}
 use Rattle.rules.proofs.State.{equal, fits, within}
 use Rattle.rules.proofs.Edits.{words-in-block}
 use Rattle.rules.proofs.Mapping.{target-above}
+use Rattle.rules.proofs.Memory.{fill-same}
 use Rattle.ledger.specs.Needs.{GrantsInside, Countable}
 use Rattle.ledger.proofs.Counting.{countable}
 use Rattle.ledger.proofs.Judge.{Decides, decides}
 use Rattle.mapping.specs.Pieces.{holderRefusals, mapPlaceRefusals, mapTargetRefusals}
 use Rattle.mapping.specs.Needs.{InTable, Slot}
 use Rattle.mapping.proofs.Slots.{slot}
-use Rattle.mapping.proofs.Windows.{mapping-spreads, mapping-words-alike, fill-same}
+use Rattle.mapping.proofs.Windows.{mapping-spreads, mapping-words-alike}
 
 -- 10 does not apply, so the target is in the region
 pub unfit-inside : (f : Form) (s : Store) (p i t r : ℕ) → unfitTarget f s p i t r ≡ false → outside (base s) (blocks s) t (targetBlocks f) ≡ false

@@ -1,25 +1,21 @@
 -- The words of a mapping, looked at through the first of them: it says what they give, and to which blocks.
-use mathlib.Core.Bool.{Bool, true, false, not, _&&_, _||_, and-false}
-use mathlib.Core.List.{List}
+use mathlib.Core.Bool.{Bool, true, false, not, _&&_, and-false}
 use mathlib.Core.Logic.{⊎-elim}
 use mathlib.Core.Path.{_≡_, refl, sym, _∙_, ap, ap₂}
-use Prim.Native.Nat.{ℕ, zero, suc, _+_, _-_, _*_, _/_, _%_, _<_, _≤_}
-use native.Mathlib.Nat.{add-assoc, add-zero, zero-add}
+use Prim.Native.Nat.{ℕ, zero, suc, _+_, _*_, _/_, _%_, _<_, _≤_}
+use native.Mathlib.Nat.{add-zero, zero-add}
 use native.Mathlib.Omega.{arith}
-use borrow.Author.Tests.{not-true, not-false}
 use Rattle.words.specs.Bounded.{any, among, num, sum}
-use Rattle.words.specs.Words.{putWord}
 use Rattle.words.proofs.Bounded.{or-left, any-avoids, any-hit, any-same, among-in, among-within, both-ways, false-unless, below-or-above}
-use Rattle.entries.specs.Entries.{Entry, large, l2, entryAt, isFault, isLink, isSection, isPage, isLarge, placeFirst, placeBlocks, coverFirst, coverBlocks, covers, rights, largeBlocks}
+use Rattle.entries.specs.Entries.{Entry, large, l2, isLink, isPage, isLarge, placeFirst, placeBlocks, coverFirst, coverBlocks, covers, rights, largeBlocks}
 use Rattle.entries.specs.Written.{wordOf}
 use Rattle.entries.proofs.Covers.{standsAlone, cover-whole, page-alone}
-use Rattle.entries.proofs.Decoding.{large-run}
 use Rattle.entries.proofs.RoundTrip.{large-word}
-use Rattle.rules.specs.Store.{blockWords, Store, base, Counter, writable, executable, linked, fill}
-use Rattle.rules.specs.Tables.{Form, sections, pages, larges, level, targetBlocks, mappingWords, mapping, takes, wordIndex, tableEntry, grants, gives, gain, astray}
+use Rattle.rules.specs.Store.{Store, Counter, writable, executable, linked}
+use Rattle.rules.specs.Tables.{Form, sections, pages, larges, level, targetBlocks, mappingWords, mapping, takes, tableEntry, grants, gives, gain, astray}
 use Rattle.rules.specs.General.{misaligned}
 use Rattle.rules.proofs.Gains.{gain-same}
-use Rattle.rules.proofs.Mapping.{word-aligned}
+use Rattle.rules.proofs.Removals.{table-run}
 use Rattle.ledger.specs.Counters.{Spreads}
 use Rattle.mapping.specs.Needs.{SpeaksFor}
 
@@ -73,12 +69,6 @@ mapping-words-alike sections kind t r k a l = refl
 mapping-words-alike pages kind t r k a l = refl
 mapping-words-alike larges kind t r k a l = large-word kind t r k a l ∙ sym (large-word kind t r 0 a (omega arith))
 
--- the same words stored
-pub fill-same : (mem : List ℕ) (j m : ℕ) (v w : ℕ → ℕ) → ((k : ℕ) → k < m → v k ≡ w k) → fill mem j m v ≡ fill mem j m w
-unfolding fill
-fill-same mem j zero v w h = refl
-fill-same mem j (suc m) v w h = ap₂ (λ (xs : List ℕ) (x : ℕ). putWord xs (4 * (j + m)) x) (fill-same mem j m v w (λ k l. h k (omega arith))) (h m (omega arith))
-
 -- an entry that is a mapping's only one, and stands by itself, spreads over its place
 alone-spreads : (x : ℕ → Entry) → standsAlone (x 0) ≡ true → Spreads 1 x (x 0) (placeFirst (x 0)) (placeBlocks (x 0))
 unfolding gain sum gives covers
@@ -120,6 +110,4 @@ unfolding takes
 window-speaks sections s p i aligned =
     rw add-zero at (alone-speaks sections (λ k. tableEntry (level sections) s p (i + k)) refl (λ t. or-left _ (isPage (tableEntry (level sections) s p (i + 0))) t))
 window-speaks pages s p i aligned = rw add-zero at (alone-speaks pages (λ k. tableEntry (level pages) s p (i + k)) refl (page-alone (tableEntry (level pages) s p (i + 0))))
-window-speaks larges s p i aligned = rw add-zero at (large-speaks (λ k. tableEntry l2 s p (i + k)) (λ t.
-    let (b, r, multiple, each) = large-run (s .memory) (wordIndex s p i) (word-aligned larges s p i aligned) (rw add-zero at t) in
-    (b, r, multiple, λ k l. ap (entryAt l2 (s .memory)) (sym (add-assoc (blockWords * (p - base s)) i k)) ∙ each k l)))
+window-speaks larges s p i aligned = rw add-zero at (large-speaks (λ k. tableEntry l2 s p (i + k)) (λ t. table-run s p i aligned (rw add-zero at t)))

@@ -7,6 +7,7 @@ use entries::entry::Entry;
 use entries::entry::LARGE_BLOCKS;
 use entries::entry::Level;
 use entries::entry::Mapping;
+use entries::entry::RUN_WORDS;
 use entries::entry::SECTION_BLOCKS;
 use entries::entry::is_fault;
 use entries::entry::is_large;
@@ -26,9 +27,6 @@ pub enum Form {
     Pages,
     Larges,
 }
-
-// The words of a large page, one for each of its blocks.
-const RUN_WORDS: u32 = 16;
 
 pub fn level(form: Form) -> Level
     ensures { λ r. ⌜ levelOf r ≡ tables.level (formOf form) ⌝ }

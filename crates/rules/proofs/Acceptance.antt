@@ -1,4 +1,4 @@
--- A mapping of rights 0 or 1, a link, and the unmap of a fault are accepted wherever table, holder, entry and target are right: each test of their
+-- A mapping of rights 0 or 1, a link, and unmap L1 or L2 of a fault are accepted wherever table, holder, entry and target are right: each test of their
 -- lists is passed by one of these. At an index beyond the table they are answered with 4, and at one that is no multiple of a mapping's words with 3.
 use mathlib.Core.Bool.{true, false, not, false≢true}
 use mathlib.Core.List.{List}
@@ -11,10 +11,10 @@ use borrow.Author.Tests.{le-ltb, lt-leb, le-leb, ltb-true}
 use Rattle.words.specs.Bounded.{above, neqb}
 use Rattle.words.proofs.Bounded.{any-avoids, false-unless, and-true, differ, same}
 use Rattle.signature.specs.Signed.{misfitImage}
-use Rattle.entries.specs.Entries.{Entry, fault, Level, l1, l2, blockTables, isFault, isLink, rights, placeFirst, coverFirst, placeBlocks, coverBlocks}
+use Rattle.entries.specs.Entries.{Entry, fault, Level, l1, l2, blockTables, isFault, rights, placeFirst, coverFirst, placeBlocks, coverBlocks}
 use Rattle.entries.specs.Rights.{write, execute, allows, unlawfulRights}
 use Rattle.rules.specs.Store.{counterLimit, Store, blocks, base, Counter, writable, executable, linked, someCounter, typeOf, counter, someBlock, misfit}
-use Rattle.rules.specs.Tables.{typeCode, tableBlocks, tableEntries, Form, sections, pages, level, targetBlocks, mappingWords, mapping, takes, tableEntry, grants, gives, gain, astray}
+use Rattle.rules.specs.Tables.{typeCode, tableBlocks, tableEntries, Form, sections, level, targetBlocks, mappingWords, mapping, takes, tableEntry, grants, gives, gain, astray}
 use Rattle.rules.specs.General.{tableOutside, misaligned, otherType, holder, executableHolder, Change, added, removed, endValue, endsBelow, overruns, someOverrun, occupied}
 use Rattle.rules.specs.Map.{unfitTarget, clashingTarget, unsignedTarget, mapRefusals, mapOutcome}
 use Rattle.rules.specs.Link.{linkTo, linkOutcome}

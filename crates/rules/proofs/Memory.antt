@@ -1,12 +1,12 @@
 -- Laws of the memory: a store changes the contents of its own block only, and words elsewhere keep their entries.
 use mathlib.Core.List.{List}
 use mathlib.Core.Logic.{_⊎_, ⊎-elim, inl, inr}
-use mathlib.Core.Path.{_≡_, refl, sym, _∙_, ap}
+use mathlib.Core.Path.{_≡_, refl, sym, _∙_, ap, ap₂}
 use Prim.Native.Nat.{ℕ, zero, suc, _+_, _-_, _*_, _/_, _%_, _^_, _<_, _≤_}
 use native.Mathlib.Omega.{arith}
 use lib.ListN.{length, getD, set, length-set}
 use lib.Seq.{getD-set-other}
-use Rattle.words.specs.Words.{word}
+use Rattle.words.specs.Words.{word, putWord}
 use Rattle.words.proofs.Bounded.{last-or-below, below-or-above, window-or-outside}
 use Rattle.words.proofs.Lists.{getD-part, part-same}
 use Rattle.words.proofs.Words.{length-putWord, getD-putWord-other, word-cong, word-putWord-same, word-putWord-other}
@@ -60,6 +60,12 @@ module _ (mem : List ℕ) (j : ℕ) (w : ℕ → ℕ) where
         let (before, after) = rw at at (lone (a - j) (omega arith) (ap (λ (n : ℕ). n / runWords) at ∙ near)) in
         inr (after, before)
     go a near (inr out) = inl (word-fill-other m a out)
+
+-- the same words stored
+pub fill-same : (mem : List ℕ) (j m : ℕ) (v w : ℕ → ℕ) → ((k : ℕ) → k < m → v k ≡ w k) → fill mem j m v ≡ fill mem j m w
+unfolding fill
+fill-same mem j zero v w h = refl
+fill-same mem j (suc m) v w h = ap₂ (λ (xs : List ℕ) (x : ℕ). putWord xs (4 * (j + m)) x) (fill-same mem j m v w (λ k l. h k (omega arith))) (h m (omega arith))
 
 -- the words of a window of entries: what is written reads back
 pub entryAt-fill : (v : Level) (mem : List ℕ) (j kind : ℕ) (e : ℕ → Entry) (m : ℕ) → Encodable v j m e → 4 * (j + m) ≤ length mem

@@ -4,14 +4,14 @@ use mathlib.Core.Bool.{Bool, true, false, not, _||_, false≢true}
 use mathlib.Core.List.{List}
 use mathlib.Core.Logic.{_≢_}
 use mathlib.Core.Path.{_≡_, refl, sym, _∙_, ap}
-use Prim.Native.Nat.{ℕ, _+_, _-_, _*_, _/_, _<_}
+use Prim.Native.Nat.{ℕ, _+_, _-_, _*_, _/_, _%_, _<_}
 use native.Mathlib.Nat.{add-assoc, add-zero}
 use native.Mathlib.Omega.{arith}
 use lib.ListN.{take, drop}
 use borrow.Author.Tests.{leb-false, not-false}
 use Rattle.words.specs.Bounded.{any}
 use Rattle.words.proofs.Bounded.{any-avoids, true-unless}
-use Rattle.entries.specs.Entries.{Entry, fault, unaccepted, link, section, page, large, Level, l1, l2, entryAt, isFault, isUnaccepted, isLink, isSection, isPage, isLarge}
+use Rattle.entries.specs.Entries.{Entry, fault, unaccepted, link, section, page, large, Level, l1, l2, entryAt, isFault, isUnaccepted, isLink, isSection, isPage, isLarge, largeBlocks, runWords}
 use Rattle.entries.proofs.Decoding.{l1-no-page, l2-no-link, large-run}
 use Rattle.rules.specs.Refusals.{Refusal, answerOf}
 use Rattle.rules.specs.Store.{blockWords, Store, blocks, base}
@@ -27,6 +27,13 @@ use Rattle.rules.proofs.State.{typeAt, Running, within, types-told}
 use Rattle.rules.proofs.Tables.{word-block, entryOf-table}
 use Rattle.rules.proofs.Edits.{words-in-block}
 use Rattle.rules.proofs.Mapping.{word-aligned}
+
+-- the sixteen entries of a table from an index on that is a multiple of 16 are a large page together, if the first of them is an entry of one
+pub table-run : (s : Store) (p i : ℕ) → misaligned i (mappingWords larges) ≡ false → isLarge (tableEntry l2 s p i) ≡ true
+    → (b : ℕ) × (r : ℕ) × (b % largeBlocks ≡ 0) × ((k : ℕ) → k < runWords → tableEntry l2 s p (i + k) ≡ large (b + k) r)
+table-run s p i aligned h =
+    let (b, r, multiple, each) = large-run (s .memory) (wordIndex s p i) (word-aligned larges s p i aligned) h in
+    (b, r, multiple, λ k l. ap (entryAt l2 (s .memory)) (sym (add-assoc (blockWords * (p - base s)) i k)) ∙ each k l)
 
 -- entries that are accepted, and that the unmap is for, are taken
 module _ (s : Store) (p i : ℕ) where
@@ -53,8 +60,8 @@ module _ (s : Store) (p i : ℕ) where
     go (page b r) h u n = refl
     go (large b r) h u n = absurd (false≢true (sym n))
   all-taken larges aligned none own =
-      let (b, q, _, each) = large-run (s .memory) (wordIndex s p i) (word-aligned larges s p i aligned) (not-false (isLarge (tableEntry l2 s p i)) own) in
-      any-avoids (λ k. not (isLarge (entries l2 k))) (mappingWords larges) (λ k l. rw (ap (entryAt l2 (s .memory)) (sym (add-assoc (blockWords * (p - base s)) i k)) ∙ each k l) refl)
+      let (b, q, _, each) = table-run s p i aligned (not-false (isLarge (tableEntry l2 s p i)) own) in
+      any-avoids (λ k. not (isLarge (entries l2 k))) (mappingWords larges) (λ k l. rw (each k l) refl)
 
 module _ {h : Told} {s : Store} (r : Running h s) where
   -- an entry that may stand in a table

@@ -11,7 +11,7 @@ use Rattle.rules.specs.Tables.{astray}
 use Rattle.ledger.specs.Needs.{InLedger, Fits, recordOf}
 use Rattle.validation.specs.Tests.{entryFrom}
 
--- calls 1, entries 21: the m words from word j on lie in the memory, a multiple of sixteen words long: so do the aligned sixteen around each
+-- calls 1, entries 21: the m words from word j on lie in the memory, which is a multiple of sixteen words long: so do the aligned sixteen around each
 abbrev pub HoldsWords : List ℕ → ℕ → ℕ → Type 0
 HoldsWords memory j m = (4 * (j + m) ≤ length memory) × (length memory % (4 * runWords) ≡ 0)
 
