@@ -25,7 +25,7 @@
  * Numbers. A block is named by its physical number, address / 4096. The region is the n blocks from B on; B is a multiple of
  * PAGEMON_SECTION_BLOCKS, and B + n at most 2^20. An L1 table has four blocks from a multiple of 4 on, and 4,096 entries. An L2 block has
  * four L2 tables of 256 entries: entry e of table t has the index 256 * t + e. The holder of an entry is the block in which its word lies. A
- * large page is PAGEMON_LARGE_BLOCKS blocks from a multiple of 16 on, by one word that stands in sixteen entries of an L2 block from a
+ * large page is PAGEMON_LARGE_BLOCKS blocks from a multiple of 16 on, mapped by one word that stands in sixteen entries of an L2 block from a
  * multiple of 16 on; each of these counts on one of the blocks, the first entry on the first.
  */
 #ifndef PAGEMON_H
@@ -129,7 +129,8 @@ uint32_t pagemon_map_l2(uint8_t *memory, size_t memory_length, uint8_t *ledger, 
 
 /*
  * Maps the large page of 16 blocks from `target` at the sixteen entries from `index` of the L2 block, all of which must be faults. Refusals: 1,
- * 2, 3, 4, 5, 7, 8, 9, 10, 11, 12, 13. Writes the sixteen words in memory and the counters of the 16 blocks in the ledger.
+ * 2, 3, 4, 5, 7, 8, 9, 10, 11, 12, 13. One of the 16 blocks is enough for 10, 11 and 12. Writes the sixteen words in memory and the counters
+ * of the 16 blocks in the ledger.
  */
 uint32_t pagemon_map_large(uint8_t *memory, size_t memory_length, uint8_t *ledger, size_t ledger_length, const uint8_t *golden,
                            size_t golden_length, uint32_t block, uint32_t index, uint32_t target, uint32_t rights);
@@ -142,15 +143,15 @@ uint32_t pagemon_link(uint8_t *memory, size_t memory_length, uint8_t *ledger, si
                       uint32_t target, uint32_t table);
 
 /*
- * Takes away the entry at `index` of the table, which must not be one of a large page. Refusals: 1, 2, 3 (L1), 4, 5, 7, 8, 10, 13. Writes 0
- * over the entry's word in memory, also where a fault stood, and lowers the counters of what the entry gave in the ledger.
+ * Takes away the entry at `index` of the table (in an L2 block no entry of a large page). Refusals: 1, 2, 3 (L1), 4, 5, 7, 8, 10, 13. Writes
+ * 0 over the entry's word in memory, also where a fault stood, and lowers the counters of what the entry gave in the ledger.
  */
 uint32_t pagemon_unmap_l1(uint8_t *memory, size_t memory_length, uint8_t *ledger, size_t ledger_length, uint32_t block, uint32_t index);
 uint32_t pagemon_unmap_l2(uint8_t *memory, size_t memory_length, uint8_t *ledger, size_t ledger_length, uint32_t block, uint32_t index);
 
 /*
- * Takes away the large page at the sixteen entries from `index` of the L2 block; sixteen faults are none. Refusals: 1, 2, 3, 4, 5, 7, 8, 10, 13.
- * Writes 0 over the sixteen words in memory, and lowers the counters of the 16 blocks in the ledger.
+ * Takes away the large page at the sixteen entries from `index` of the L2 block; where sixteen faults stand there is none, and the answer is
+ * 8. Refusals: 1, 2, 3, 4, 5, 7, 8, 10, 13. Writes 0 over the sixteen words in memory, and lowers the counters of the 16 blocks in the ledger.
  */
 uint32_t pagemon_unmap_large(uint8_t *memory, size_t memory_length, uint8_t *ledger, size_t ledger_length, uint32_t block, uint32_t index);
 

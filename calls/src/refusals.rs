@@ -36,9 +36,9 @@ pub const LINKED: Refusal = refusal(6, "the block is linked");
 pub const EXECUTABLE_HOLDER: Refusal = refusal(7, "the holder is executable");
 
 pub const NO_FAULT: Refusal = refusal(8, "the entry is not a fault");
-pub const NO_FAULTS: Refusal = refusal(8, "one of the sixteen entries is not a fault");
+pub const NOT_ALL_FAULTS: Refusal = refusal(8, "one of the sixteen entries is not a fault");
 pub const UNACCEPTED_ENTRY: Refusal = refusal(8, "the entry is not of an accepted form");
-pub const NO_SMALL_ENTRY: Refusal =
+pub const NO_FAULT_OR_PAGE: Refusal =
     refusal(8, "the entry is not of an accepted form, or is one of the sixteen of a large page");
 pub const NO_LARGE_PAGE: Refusal = refusal(8, "the sixteen entries are not those of one large page");
 pub const UNACCEPTED_ENTRIES: Refusal = refusal(8, "an entry is not of an accepted form");

@@ -29,7 +29,7 @@ macro_rules! table {
             UnmapL1 = 9: pagemon_unmap_l1(mut memory, mut ledger; block, index)
                 refuses MISFIT, TABLE_OUTSIDE, MISALIGNED, BEYOND_TABLE, NOT_L1, EXECUTABLE_HOLDER, UNACCEPTED_ENTRY, ASTRAY_ENTRY, OVERRUN;
             UnmapL2 = 10: pagemon_unmap_l2(mut memory, mut ledger; block, index)
-                refuses MISFIT, BLOCK_OUTSIDE, BEYOND_TABLE, NOT_L2, EXECUTABLE_HOLDER, NO_SMALL_ENTRY, ASTRAY_ENTRY, OVERRUN;
+                refuses MISFIT, BLOCK_OUTSIDE, BEYOND_TABLE, NOT_L2, EXECUTABLE_HOLDER, NO_FAULT_OR_PAGE, ASTRAY_ENTRY, OVERRUN;
             Switch = 11: pagemon_switch(const memory, mut ledger; block)
                 refuses MISFIT, TABLE_OUTSIDE, MISALIGNED, NOT_L1;
             Read = 12: pagemon_read(const memory, const ledger; address; byte: u8)
@@ -39,7 +39,7 @@ macro_rules! table {
             Fetch = 14: pagemon_fetch(const memory, const ledger; address; byte: u8)
                 refuses MISFIT, NO_ACTIVE_TABLE, FAULT_ENTRY, RIGHT_LACKING, BROKEN_WALK;
             MapLarge = 15: pagemon_map_large(mut memory, mut ledger, const golden; block, index, target, rights)
-                refuses MISFIT_OR_IMAGE, BLOCK_OUTSIDE, MISALIGNED_LARGE, BEYOND_TABLE, NOT_L2, EXECUTABLE_HOLDER, NO_FAULTS, UNLAWFUL_RIGHTS,
+                refuses MISFIT_OR_IMAGE, BLOCK_OUTSIDE, MISALIGNED_LARGE, BEYOND_TABLE, NOT_L2, EXECUTABLE_HOLDER, NOT_ALL_FAULTS, UNLAWFUL_RIGHTS,
                     UNFIT_TARGET, CLASH, UNSIGNED, OVERRUN;
             UnmapLarge = 16: pagemon_unmap_large(mut memory, mut ledger; block, index)
                 refuses MISFIT, BLOCK_OUTSIDE, MISALIGNED_INDEX, BEYOND_TABLE, NOT_L2, EXECUTABLE_HOLDER, NO_LARGE_PAGE, ASTRAY_ENTRY, OVERRUN;
