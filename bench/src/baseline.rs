@@ -1,4 +1,4 @@
-//! The sixteen calls in plain Rust, written for speed: what a good program without proofs would be. Safe Rust, every index checked.
+//! The calls in plain Rust, written for speed: what a good program without proofs would be. Safe Rust, every index checked.
 //! Create and free count a table's entries in lent scratch bytes first, 16 for each block; their counts are 0 before and after each call.
 use crate::sha256::sha256;
 

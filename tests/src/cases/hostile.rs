@@ -89,7 +89,7 @@ fn records(kind: Kind, scene: &mut Scene, table: usize, random: &mut Random) {
     }
 }
 
-/// A few words in the table, seldom an unaccepted one, and behind or under them runs.
+/// Up to three runs if the table is an L2 block, then a few words, seldom an unaccepted one, which may stand in a run.
 fn words(kind: Kind, scene: &mut Scene, table: usize, random: &mut Random) {
     let blocks = if about_l2(kind) { 1 } else { 4 };
     if about_l2(kind) {

@@ -129,7 +129,7 @@ impl About {
         Case { expected, ..scene.case(&format!("{name}, by index {index}"), self.kind, &arguments) }
     }
 
-    /// The answer about the entry at an index. Where a bit was changed, it may be that of a page with other rights.
+    /// The answer about the entry at an index. At a page, which may have other rights than the run, that of unmap and the guest is left to the reference.
     fn answer(&self, scene: &Scene, arrangement: &Arrangement, index: usize) -> Option<u32> {
         let unless = |whole: bool, refusal: u32| Some(if whole { 0 } else { refusal });
         match (self.kind, scene.word(PAGE_TABLE, index) % 4) {
@@ -163,7 +163,7 @@ impl About {
         Ok(())
     }
 
-    /// A run of every word with low bits 01 that differs in a bit that its form names, and some that differ in others.
+    /// Runs of every value of bits 9..2: with XN set, with XN clear, and with XN clear and one free bit set.
     fn forms(&self, comparer: &mut Comparer) -> Outcome {
         let mut empty = self.scene(LARGE_REGION);
         if matches!(self.kind, FreeL2 | UnmapLarge) {
@@ -539,7 +539,6 @@ fn targets(comparer: &mut Comparer) -> Outcome {
 fn holder_among_targets(comparer: &mut Comparer) -> Outcome {
     for position in LARGE..LARGE + 16 {
         let mut scene = About { kind: MapLarge }.scene(LARGE_REGION);
-        scene.set_record(PAGE_TABLE, TYPE, 2);
         scene.set_record(position, TYPE, 2);
         for (rights, holder, other) in [(0, 0, 0), (1, 0, 0), (3, 10, 10), (5, 10, 0)] {
             for (table, answer) in [(position, holder), (PAGE_TABLE, other)] {

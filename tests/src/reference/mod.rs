@@ -1,5 +1,6 @@
-//! The monitor, written for tests from documents 01 and 02 and their readings: slow, plain, and total on all buffers and arguments. It shares nothing
-//! with the definitions or the code. It follows docs/RULES.md section by section and cites its clauses.
+//! The monitor, written for tests from documents 01 and 02 and their readings: slow, plain, and total on all buffers and arguments. It shares no
+//! code and no definition with the proved crates; when its large pages were written, the definitions of entries had been seen. It follows docs/RULES.md
+//! section by section and cites its clauses.
 pub mod entries;
 mod guest;
 mod ledger;
