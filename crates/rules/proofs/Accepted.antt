@@ -17,7 +17,7 @@ use Rattle.rules.specs.Outcomes.{leaving}
 use Rattle.rules.specs.Store.{blockBytes, blockWords, Store, blocks, base, outside}
 use Rattle.rules.specs.Tables.{tableBlocks, tableEntries, Form, sections, pages, larges, level, targetBlocks, mappingWords, mapping, wordIndex, astray, l2Words}
 use Rattle.rules.specs.General.{tableOutside, beyondTable, entered}
-use Rattle.rules.specs.Map.{mapRefusals, mapOutcome}
+use Rattle.rules.specs.Map.{mapRefusals, mapAccepted, mapOutcome}
 use Rattle.rules.specs.Link.{linkTo, linkRefusals, linkOutcome}
 use Rattle.rules.specs.Guest.{Walk, ends, passes, endsAt, secondEntry, follow, walk}
 use Rattle.rules.proofs.Refusals.{passed, passed-front}
@@ -34,8 +34,8 @@ pub record Entered (v : Level) (s after : Store) (p i m : ℕ) (x : ℕ → Entr
   pub same-length : length (after .memory) ≡ length (s .memory)
 
 writes-entries : (v : Level) (s : Store) (p i m : ℕ) (x : ℕ → Entry) → Encodable v (wordIndex s p i) m x → i % blockWords + m ≤ blockWords → Fit (base s) (blocks s) s → tableOutside v s p ≡ false → beyondTable v i ≡ false
-    → Entered v s (entered s p i m x) p i m x
-writes-entries v s p i m x written whole fit t2 t4 =
+    → (led : List ℕ) → Entered v s (record { memory = entered s p i m x .memory; ledger = led }) p i m x
+writes-entries v s p i m x written whole fit t2 t4 led =
     let a = wordIndex s p i in
     let (low, high) = within (base s) (blocks s) p (tableBlocks v) t2 in
     let small = leb-false (tableEntries v) i t4 in
@@ -79,17 +79,17 @@ walk-entry B n mem table addr p i e through at small inside is accepted near no-
 -- Map
 
 module _ (f : Form) (golden : List ℕ) (s : Store) (p i t r : ℕ) (accepted : mapOutcome f golden s p i t r .answer ≡ 0) where
-  settled : (Mappable f golden s p i t r) × (mapOutcome f golden s p i t r .after ≡ entered s p i (mappingWords f) (mapping f t r))
+  settled : (Mappable f golden s p i t r) × (mapOutcome f golden s p i t r .after ≡ mapAccepted f s p i t r .store)
   unfolding mapOutcome
   settled =
       let rs = mapRefusals f golden s p i t r in
-      let (zero-is, after-is, _) = settle-accepted s (leaving (entered s p i (mappingWords f) (mapping f t r))) (answerOf rs) accepted in
+      let (zero-is, after-is, _) = settle-accepted s (mapAccepted f s p i t r) (answerOf rs) accepted in
       (mappable f golden s p i t r (passed-front rs (passed rs (omega arith) zero-is)), after-is)
 
   pub map-enters : Entered (level f) s (mapOutcome f golden s p i t r .after) p i (mappingWords f) (mapping f t r)
   map-enters =
       let (can, after-is) = settled in
-      rw after-is (writes-entries (level f) s p i (mappingWords f) (mapping f t r) (can .written) (words-in-block f i (can .aligned)) (can .region) (can .table-inside) (can .index-inside))
+      rw after-is (writes-entries (level f) s p i (mappingWords f) (mapping f t r) (can .written) (words-in-block f i (can .aligned)) (can .region) (can .table-inside) (can .index-inside) _)
 
 -- a walk to the section that was mapped
 pub section-grants : (golden : List ℕ) (s : Store) (p i t r : ℕ) (accepted : mapOutcome sections golden s p i t r .answer ≡ 0) (addr : ℕ) → bits addr 20 12 ≡ i
@@ -140,7 +140,7 @@ module _ (s : Store) (p i t j : ℕ) (accepted : linkOutcome s p i t j .answer �
   pub link-enters : Entered l1 s (linkOutcome s p i t j .after) p i 1 (λ k. linkTo t j)
   link-enters =
       let (can, after-is) = linked in
-      rw after-is (writes-entries l1 s p i 1 (λ k. linkTo t j) (link-written (wordIndex s p i) can) (omega arith) (can .region) (can .table-inside) (can .index-inside))
+      rw after-is (writes-entries l1 s p i 1 (λ k. linkTo t j) (link-written (wordIndex s p i) can) (omega arith) (can .region) (can .table-inside) (can .index-inside) _)
 
   -- a walk through the link grants what the entry of the L2 table grants that the address names
   pub link-leads : (addr : ℕ) → bits addr 20 12 ≡ i

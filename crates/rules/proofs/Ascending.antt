@@ -21,6 +21,7 @@ use Rattle.rules.specs.Map.{mapRefusals, mapOutcome}
 use Rattle.rules.specs.Link.{linkRefusals, linkOutcome}
 use Rattle.rules.specs.Unmap.{unmapRefusals, unmapOutcome}
 use Rattle.rules.specs.Switch.{switchRefusals, switchOutcome}
+use Rattle.rules.specs.Forget.{forgetRefusals, forgetOutcome}
 use Rattle.rules.specs.Guest.{Walk, stops, ends, passes, follow, walk, Access, walkRefusals, guestRefusals, guestOutcome}
 use Rattle.rules.proofs.Passing.{settle-answer}
 
@@ -111,6 +112,10 @@ unmap-lowest f s p i = settled (unmapRefusals f s p i) _ _ refl
 pub switch-lowest : (s : Store) (p : ℕ) → Lowest (switchRefusals s p) (switchOutcome s p .answer)
 unfolding switchOutcome
 switch-lowest s p = settled (switchRefusals s p) _ _ refl
+
+pub forget-lowest : (s : Store) (p m : ℕ) → Lowest (forgetRefusals s p m) (forgetOutcome s p m .answer)
+unfolding forgetOutcome
+forget-lowest s p m = settled (forgetRefusals s p m) _ _ refl
 
 -- The guest's accesses: after 1 and 21 comes what the walk says
 

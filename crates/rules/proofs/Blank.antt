@@ -26,8 +26,8 @@ use Rattle.rules.specs.Signature.{contents, signedBlock}
 use Rattle.rules.specs.Tables.{typeD, typeCode, tableBlocks, tableEntries, pages, typedEntry, tableEntry, grants, gain, astray}
 use Rattle.rules.specs.Outcomes.{leaving}
 use Rattle.rules.specs.Begin.{beginRefusals, beginAfter, beginOutcome}
-use Rattle.rules.specs.Create.{someCount, misplaced, unfitLink, unfitWrite, clash, clashes, unsigned, createRefusals, createOutcome, createAfter}
-use Rattle.rules.specs.Steps.{Step, creates, maps, obey, run, Told, typed, afterAccepted, afterAnswer, history}
+use Rattle.rules.specs.Create.{someCount, misplaced, unfitLink, unfitWrite, clash, clashes, unsigned, createRefusals, createOutcome, createAccepted}
+use Rattle.rules.specs.Steps.{Step, creates, maps, obey, run, runBy, Told, typed, afterAccepted, afterAnswer, history}
 use Rattle.rules.specs.Demand3.{storeAt, toldAt}
 use Rattle.rules.specs.Policies.{WritableByOneEntry, thereAndBack}
 use Rattle.rules.proofs.Refusals.{Passed, done, step, accepted}
@@ -88,9 +88,9 @@ module _ {h : Told} {s : Store} (r : Running h s) (blank : Blank (s .memory)) wh
         (step (any-avoids (λ i. misplaced v s p (entry i)) (tableEntries v) (λ i _. rw (blank v _) refl))
         (step no-clash (step none-unsigned done)))))))))
 
-    create-taken : Taken h s (creates v p) (createAfter v s p)
+    create-taken : Taken h s (creates v p) (createAccepted v s p .store)
     unfolding obey createOutcome
-    create-taken = taken r (creates v p) _ (createAfter v s p) refl create-passes
+    create-taken = taken r (creates v p) _ (createAccepted v s p) refl create-passes
 
 -- Eight blocks of zeros, and the digest of one of them as golden image
 
@@ -189,7 +189,7 @@ tabled-alone z =
     }
 
 two-steps : (run golden started tableAndPage .answers ≡ (0 ∷ 0 ∷ [])) × WritableByOneEntry (toldOf withL2 none) (run golden started tableAndPage .reached) 0 0 5
-unfolding run
+unfolding runBy
 two-steps =
     let (created, z) = create-zeros zeros-started l2 0 (omega arith) refl (λ k l. refl) in
     let m = map-goes (z .runs) lawful readWrite (tabled-alone z) in

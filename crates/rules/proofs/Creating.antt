@@ -1,6 +1,7 @@
 -- Create runs on: the new table's entries are accepted, lead to blocks of the right types, clash neither with the old counters nor with each
 -- other, and what they let execute is signed; the blocks themselves had no counts.
-use mathlib.Core.Bool.{Bool, true, false, _&&_, _||_, false≢true}
+use mathlib.Core.Bool.{Bool, true, false, not, _&&_, _||_, false≢true}
+use mathlib.Core.Logic.{inl, ⊎-elim}
 use mathlib.Core.Path.{_≡_, refl, sym, _∙_}
 use mathlib.Core.List.{List}
 use Prim.Native.Nat.{ℕ, _+_, _-_, _<_, _≤_}
@@ -11,15 +12,16 @@ use Rattle.words.proofs.Bounded.{any-none, or-false-left, or-false-right, and-f
 use Rattle.entries.specs.Entries.{Entry, Level, l2, isUnaccepted, isLink, coverFirst, coverBlocks}
 use Rattle.rules.specs.Store.{Store, blocks, base, Counter, writable, executable, linked, someCounter, typeOf, counter, someBlock, someRegionBlock}
 use Rattle.rules.specs.Tables.{typeD, typeCode, tableBlocks, tableEntries, tableEntry, grants, gives, gain, astray}
-use Rattle.rules.specs.General.{added, retyped, someOverrun, tableOutside, otherType}
-use Rattle.rules.specs.Create.{someCount, unfitLink, unfitWrite, misplaced, clashes, unsigned, createRefusals, createAfter, createOutcome}
+use Rattle.rules.specs.General.{added, someOverrun, tableOutside, otherType}
+use Rattle.rules.specs.Create.{someCount, unfitLink, unfitWrite, misplaced, clashes, unsigned, createRefusals, createAccepted, createOutcome}
 use Rattle.rules.specs.Steps.{creates, Told, afterAccepted, typed}
+use Rattle.rules.specs.Box.{grantsWrite}
 use Rattle.rules.proofs.Refusals.{Passed, front, now, rest}
 use Rattle.rules.proofs.Gains.{gives-within}
 use Rattle.rules.proofs.Consistent.{Suits, Sound}
-use Rattle.rules.proofs.State.{typeAt, signedAt, recorded, Running, equal, within, no-block, no-block-at, no-counter, types-told, type-told, Next, next-13}
-use Rattle.rules.proofs.Changes.{counter-none, adds}
-use Rattle.rules.proofs.Typing.{retold, typing-leaves, typing-replaces, stays, root-stays, other-table}
+use Rattle.rules.proofs.State.{typeAt, signedAt, recorded, Running, equal, within, no-block, no-block-at, no-counter, types-told, type-told, Goes, known-signed, Next, next-13}
+use Rattle.rules.proofs.Changes.{counter-none, adds, admits}
+use Rattle.rules.proofs.Typing.{retold, typing-leaves, typing-replaces, typing-marks, stays, root-stays, other-table}
 
 -- what passed the tests of a create
 record Creatable (v : Level) (golden : List ℕ) (s : Store) (p : ℕ) : Type 0 where
@@ -107,15 +109,17 @@ module _ (v : Level) (p : ℕ) {h : Told} {s : Store} (r : Running h s) (can : C
       stays added v p r low high linked b is
       (λ from to. let i : p + (q - p) ≡ q = omega arith in let z : ⊥ = omega (arith, is, rw i at (was (q - p) (omega arith))) in absurd z)
 
-  created : (someOverrun added s (tableEntries v) (tableEntry v s p) ≡ false) × Running (retold added v p h) (retyped added v s p)
+  created : (someOverrun added s (tableEntries v) (tableEntry v s p) ≡ false) × Goes (grantsWrite s (creates v p)) (retold added v p h) s (createAccepted v s p .store)
+  unfolding grantsWrite
   created =
       adds r
-      (record {
+      (admits (record {
         leaves = typing-leaves added v p r low high (λ q z. root-stays added v p r low high q z (λ x. other-table (h .types) p q (tableBlocks v) typeD x was (r .root q z .typed) (λ e. omega arith)));
         replaces = typing-replaces added v p r low high was;
         carry = λ c b l k suits. stays added v p r low high c b suits (λ lo hi. let z : ⊥ = omega (arith, no-count c b lo hi) in absurd z);
         keep = λ b l x. refl;
-      })
+        marks = λ b l k. inl (typing-marks added v p r low high b k);
+      }))
       (record { sound = sound; clear = no-block (base s) (blocks s) (clashes s (tableEntries v) e) (can .clear); signs = signs }) where
         e : ℕ → Entry
         e = tableEntry v s p
@@ -126,12 +130,10 @@ module _ (v : Level) (p : ℕ) {h : Told} {s : Store} (r : Running h s) (can : C
             record { accepted = any-none (λ i. isUnaccepted (e i)) (tableEntries v) (can .accepted) i l; inside = placed .inside; suits = new-suits (e i) placed }
 
         signs : (b : ℕ) → b < blocks s → 0 < gain (tableEntries v) e executable (base s + b) → signedAt (base s) h (s .memory) b ≡ true
-        signs b l g =
-            not-false (signedAt (base s) h (s .memory) b)
-            (rw (lt-ltb 0 (gain (tableEntries v) e executable (base s + b)) g) at (no-block (base s) (blocks s) (unsigned (h .golden) s (tableEntries v) e) (can .signs) b l))
+        signs b l g = known-signed r b l (rw (lt-ltb 0 (gain (tableEntries v) e executable (base s + b)) g) at (no-block (base s) (blocks s) (unsigned (h .golden) s (tableEntries v) e) (can .signs) b l))
 
-pub create-next : (v : Level) (p : ℕ) {h : Told} {s : Store} → Running h s → Next h (creates v p) (createOutcome v (h .golden) s p)
+pub create-next : (v : Level) (p : ℕ) {h : Told} {s : Store} → Running h s → Next h s (creates v p) (createOutcome v (h .golden) s p)
 unfolding createOutcome afterAccepted
 create-next v p {h} {s} r =
-    next-13 (creates v p) (createAfter v s p) (createRefusals v (h .golden) s p) r (omega arith) (omega arith) (omega arith)
+    next-13 (creates v p) (createAccepted v s p) (createRefusals v (h .golden) s p) r (omega arith) (omega arith) (omega arith)
     (λ tests. created v p r (creatable v (h .golden) s p tests))

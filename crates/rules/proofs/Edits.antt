@@ -1,7 +1,7 @@
 -- A window of a table's entries is changed, in a block that cannot be executed: the words elsewhere keep their entries and no signature is lost.
 use mathlib.Core.Bool.{true, false, not, _&&_, _||_, and-false}
 use mathlib.Core.List.{List}
-use mathlib.Core.Logic.{_≢_, ⊎-elim}
+use mathlib.Core.Logic.{_≢_, _⊎_, inl, ⊎-elim}
 use mathlib.Core.Path.{_≡_, refl, sym, _∙_, ap}
 use Prim.Native.Nat.{ℕ, _+_, _-_, _*_, _/_, _%_, _<_, _≤_}
 use native.Mathlib.Nat.{add-assoc}
@@ -16,17 +16,18 @@ use Rattle.entries.specs.Written.{wordOf, cacheable}
 use Rattle.entries.proofs.Covers.{standsAlone}
 use Rattle.entries.proofs.Decoding.{Lone, lone-word}
 use Rattle.entries.proofs.RoundTrip.{Encodable}
-use Rattle.rules.specs.Store.{blockWords, Store, blocks, base, writable, executable, counter, fill}
+use Rattle.rules.specs.Store.{blockWords, basePlace, activePlace, Store, blocks, base, writable, executable, counter, fill}
 use Rattle.rules.specs.Tables.{typeCode, tableBlocks, tableEntries, Form, sections, pages, larges, mappingWords, wordIndex, tableEntry, gain}
-use Rattle.rules.specs.General.{occupied, entered, tableOutside, misaligned, beyondTable, otherType, holder, executableHolder, Change, added, endValue, someOverrun, recounted}
+use Rattle.rules.specs.General.{occupied, entered, tableOutside, misaligned, beyondTable, otherType, holder, executableHolder, Change, added, endValue, someOverrun, recounted, edited as editedStore}
 use Rattle.rules.specs.Create.{clash, clashes}
 use Rattle.rules.specs.Steps.{Told}
 use Rattle.rules.proofs.Gains.{fault-is}
 use Rattle.rules.proofs.Memory.{length-fill, entryAt-fill, entryAt-fill-other, contents-fill, signedBlock-same}
 use Rattle.rules.proofs.Consistent.{Sound, Replaces, windowBefore, windowAfter}
-use Rattle.rules.proofs.State.{typeAt, signedAt, recorded, entryOf, Running, equal, within, types-told}
+use Rattle.rules.proofs.State.{typeAt, signedAt, recorded, MarkedAt, entryOf, Running, equal, within, types-told}
 use Rattle.rules.proofs.Tables.{entryOf-table, typedEntry-same}
-use Rattle.rules.proofs.Changes.{Changes, counter-at, end, Leaves, adds, length-recounted, head-recounted, type-recounted, counter-recounted}
+use Rattle.rules.proofs.Ledger.{OnlyMarks, marks-clear, mark-cleared, mark-clear-other}
+use Rattle.rules.proofs.Changes.{Changes, counter-at, end, Leaves, Fresh, length-recounted, head-recounted, type-recounted, mark-recounted, counter-recounted}
 
 -- the m words from index i of a table at block p on, of which 2, 3, 4, 5 and 7 hold nothing against
 pub record Slot (h : Told) (s : Store) (v : Level) (p i m : ℕ) : Type 0 where
@@ -68,24 +69,40 @@ module _ {h : Told} {s : Store} (r : Running h s) (v : Level) (p i m : ℕ) wher
 
   -- the entries e are added at the window, or removed from it
   abbrev pub edited : Change → (ℕ → Entry) → Store
-  edited d e = record { memory = fill (s .memory) (wordIndex s p i) m (λ k. wordOf cacheable (windowAfter d e k)); ledger = recounted d s m e }
+  edited d e = editedStore d s p i m e (λ k. wordOf cacheable (windowAfter d e k))
 
   module _ (sl : Slot h s v p i m) (d : Change) (e : ℕ → Entry) where
     abbrev w : ℕ → ℕ
     w k = wordOf cacheable (windowAfter d e k)
 
+    -- the holder, by its place in the region
+    abbrev own : ℕ
+    own = holder p i - base s
+
+    holder-cleared : OnlyMarks (recounted d s m e) (edited d e .ledger)
+    holder-cleared = marks-clear (recounted d s m e) own
+
     edit-leaves : Leaves d m e s (edited d e) h
     edit-leaves =
+        let o = holder-cleared in
         record {
           told-base = r .told-base;
           memory-length = length-fill (s .memory) (wordIndex s p i) w m;
-          ledger-length = length-recounted d s m e;
-          base-is = head-recounted d s m e 0 (omega arith);
-          active-is = head-recounted d s m e 4 (omega arith) ∙ r .active-is;
-          types-are = λ b l. type-recounted d s m e b ∙ r .types-are b l;
-          counters-are = counter-recounted d s m e (r .fit .ledger-length);
+          ledger-length = o .length-is ∙ length-recounted d s m e;
+          base-is = o .head-is basePlace (omega arith) ∙ head-recounted d s m e basePlace (omega arith);
+          active-is = o .head-is activePlace (omega arith) ∙ head-recounted d s m e activePlace (omega arith) ∙ r .active-is;
+          types-are = λ b l. o .type-is b ∙ type-recounted d s m e b ∙ r .types-are b l;
+          counters-are = λ c b l small. o .counter-is c b ∙ counter-recounted d s m e (r .fit .ledger-length) c b l small;
           root = r .root;
         }
+
+    -- a block that is marked afterwards is not the holder, and was marked before
+    edit-marks : (b : ℕ) → b < blocks s → MarkedAt (edited d e) b → (own ≢ b) × MarkedAt s b
+    edit-marks b l k = (other, sym (mark-clear-other (recounted d s m e) own b other ∙ mark-recounted d s m e b) ∙ k) where
+      other : own ≢ b
+      other q =
+          let cleared = mark-cleared (recounted d s m e) own (blocks s) (length-recounted d s m e ∙ r .fit .ledger-length) (omega arith) in
+          omega (arith, rw (← q) at k, cleared)
 
     -- an entry of the window, in a memory
     window-entry : (mem : List ℕ) (k : ℕ) → k < m → entryOf (base s) h mem (wordIndex s p i + k) ≡ entryAt v mem (wordIndex s p i + k)
@@ -133,13 +150,13 @@ module _ {h : Told} {s : Store} (r : Running h s) (v : Level) (p i m : ℕ) wher
             same = λ j l o. outside-same j o;
           }
 
-    -- no block that can be executed afterwards has other contents
-    edit-keeps : end d s m e executable (holder p i - base s) ≡ 0 → (b : ℕ) → b < blocks s → 0 < end d s m e executable b
+    -- no block that can be executed or is marked afterwards has other contents
+    edit-keeps : end d s m e executable own ≡ 0 → (b : ℕ) → b < blocks s → (0 < end d s m e executable b) ⊎ MarkedAt (edited d e) b
         → signedAt (base s) h (edited d e .memory) b ≡ signedAt (base s) h (s .memory) b
     edit-keeps none b l more =
         let mem = s .memory in
         let whole = sl .in-holder in
-        let other : b ≢ holder p i - base s = λ q. omega (arith, more, rw (← q) at none) in
+        let other : own ≢ b = ⊎-elim (λ (x : 0 < end d s m e executable b). λ q. omega (arith, x, rw q at none)) (λ (k : MarkedAt (edited d e) b). edit-marks b l k .0) more in
         signedBlock-same (h .golden) (base s) (fill mem (wordIndex s p i) m w) mem b (contents-fill mem (wordIndex s p i) w m b (λ k. omega arith))
 
     -- the window was as it is before the change, and its holder can't be executed
@@ -147,7 +164,7 @@ module _ {h : Told} {s : Store} (r : Running h s) (v : Level) (p i m : ℕ) wher
         → Apart (wordIndex s p i) m (windowBefore d e) (windowAfter d e) → end d s m e executable (holder p i - base s) ≡ 0
         → Changes d (wordIndex s p i) m e h h s (edited d e)
     edits written before apart none =
-        record { leaves = edit-leaves; replaces = edit-replaces written before apart; carry = λ c b l k suits. suits; keep = edit-keeps none }
+        record { leaves = edit-leaves; replaces = edit-replaces written before apart; carry = λ c b l k suits. suits; keep = edit-keeps none; marks = λ b l k. inl (edit-marks b l k .1) }
 
 -- Entering entries
 
@@ -176,12 +193,13 @@ module _ {h : Told} {s : Store} (r : Running h s) (v : Level) (p i m : ℕ) (sl 
 
   -- entries that suit their targets, written where faults were
   pub enters : Encodable v (wordIndex s p i) m x → Apart (wordIndex s p i) m (λ k. fault) x → occupied v s p i m ≡ false
-      → ((k : ℕ) → k < m → Sound (base s) (blocks s) (typeAt (base s) h) (x k)) → (someOverrun added s m x ≡ false) × Running h (entered s p i m x)
+      → ((k : ℕ) → k < m → Sound (base s) (blocks s) (typeAt (base s) h) (x k))
+      → Changes added (wordIndex s p i) m x h h s (entered s p i m x) × Fresh m x h h s
   unfolding endValue
   enters written apart free sound =
       let at : base s + (holder p i - base s) ≡ holder p i = (let whole = sl .in-holder in omega arith) in
       let was : (k : ℕ) → k < m → tableEntry v s p (i + k) ≡ fault = λ k l.
-      fault-is (tableEntry v s p (i + k)) (not-false (isFault (tableEntry v s p (i + k))) (any-none (λ k. not (isFault (tableEntry v s p (i + k)))) m free k l)) in
-      adds r
-      (edits r v p i m sl added x written was apart (rw at (omega (arith, sl .unexecuted, harmless .spares-holder))))
-      (record { sound = sound; clear = clear; signs = harmless .signs })
+      fault-is (tableEntry v s p (i + k)) (not-false (isFault (tableEntry v s p (i + k))) (any-none (λ k. not (isFault (tableEntry v s p (i + k)))) m free k l)) in (
+        edits r v p i m sl added x written was apart (rw at (omega (arith, sl .unexecuted, harmless .spares-holder))),
+        record { sound = sound; clear = clear; signs = harmless .signs },
+      )

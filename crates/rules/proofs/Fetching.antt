@@ -18,16 +18,17 @@ use Rattle.entries.proofs.Decoding.{entryAt-cong}
 use Rattle.entries.proofs.RoundTrip.{readExecute}
 use Rattle.rules.specs.Store.{Store, blocks, base, Counter, writable, executable, counter, typeOf, fill}
 use Rattle.rules.specs.Tables.{typeD, typeCode, tableBlocks, pages, wordIndex, tableEntry, gives, grants}
-use Rattle.rules.specs.General.{added, endValue, entered}
+use Rattle.rules.specs.Outcomes.{leaving}
+use Rattle.rules.specs.General.{added, endValue, entered, holder}
 use Rattle.rules.specs.Link.{linkTo, linkRefusals, linkOutcome}
 use Rattle.rules.specs.Switch.{switchAfter}
 use Rattle.rules.specs.Guest.{ends, walk, fetches, needed}
-use Rattle.rules.specs.Steps.{Step, creates, maps, links, switches, accesses, obey, run, typed, afterAccepted}
+use Rattle.rules.specs.Steps.{Step, creates, maps, links, switches, accesses, obey, run, runBy, typed, afterAccepted}
 use Rattle.rules.specs.Demand3.{Fetched, storeAt, toldAt}
 use Rattle.rules.specs.Policies.{FetchedCode}
 use Rattle.rules.proofs.Refusals.{Passed, done, step}
 use Rattle.rules.proofs.Gains.{gain-none}
-use Rattle.rules.proofs.Ledger.{typed-in, typed-out}
+use Rattle.rules.proofs.Ledger.{marks-clear, typed-in, typed-out}
 use Rattle.rules.proofs.Memory.{length-fill, contents-fill, signedBlock-same, word-fill-other}
 use Rattle.rules.proofs.State.{inside, recorded, type-told}
 use Rattle.rules.proofs.Changes.{end, counter-recounted}
@@ -65,7 +66,7 @@ module _ {s : Store} (z : Zeros withBoth s) where
 
   link-taken : Taken (toldOf withBoth none) s (links 0 0 4 0) (entered s 0 0 1 (λ k. linkTo 4 0))
   unfolding obey linkOutcome
-  link-taken = taken (z .runs) (links 0 0 4 0) _ (entered s 0 0 1 (λ k. linkTo 4 0)) refl link-passes
+  link-taken = taken (z .runs) (links 0 0 4 0) _ (leaving (entered s 0 0 1 (λ k. linkTo 4 0))) refl link-passes
 
   abbrev linked : Store
   linked = obey golden s (links 0 0 4 0) .after
@@ -77,7 +78,7 @@ module _ {s : Store} (z : Zeros withBoth s) where
       let x : ℕ → Entry = λ k. linkTo 4 0 in
       let inside : b < blocks s = omega (arith, eight z) in
       let zero : end added s 1 x c b ≡ 0 = rw (uncounted z c b l, gain-none 1 x c (base s + b) (λ k _. spares (base s + b))) refl in
-      rw (link-taken .leaves) (counter-recounted added s 1 x (z .runs .fit .ledger-length) c b inside (omega (arith, zero)) ∙ zero)
+      rw (link-taken .leaves) (marks-clear _ (holder 0 0 - base s) .counter-is c b ∙ counter-recounted added s 1 x (z .runs .fit .ledger-length) c b inside (omega (arith, zero)) ∙ zero)
 
   -- and it stands outside blocks 4 and 5
   linked-alone : Alone 0 (toldOf withBoth none) linked 4 0 5 fault
@@ -133,7 +134,7 @@ module _ {s : Store} (z : Zeros withBoth s) where
       access-accepted (switched .runs) fetches 0 refl walked refl
 
 pub fetch-accepted : run golden started toFetch .answers ≡ (0 ∷ 0 ∷ 0 ∷ 0 ∷ 0 ∷ 0 ∷ [])
-unfolding run typed
+unfolding runBy typed
 fetch-accepted =
     let (table, one) = create-zeros zeros-started l1 0 (omega arith) refl (λ k l. refl) in
     let (block, z) = create-zeros one l2 4 (omega arith) refl (λ k l. let is : k ≡ 0 = omega arith in rw is refl) in
@@ -147,9 +148,9 @@ sixth-accepted : getElem? (run golden started toFetch .answers) 5 ≡ some 0
 sixth-accepted = ap (λ (ks : List ℕ). getElem? ks 5) fetch-accepted
 
 pub byte-fetched : Fetched (toldAt golden 0 started toFetch 5) (storeAt golden started toFetch 5) 0 byte
-unfolding run
+unfolding runBy
 byte-fetched = demand3 golden (smallStore 0 ledger) 0 begins-zeros toFetch .fetched 5 0 byte refl sixth-accepted refl
 
 pub code-fetched : FetchedCode (toldAt golden 0 started toFetch 5) (storeAt golden started toFetch 5) 0 byte
-unfolding run
+unfolding runBy
 code-fetched = policies golden (smallStore 0 ledger) 0 begins-zeros toFetch .fetched 5 0 byte refl sixth-accepted refl

@@ -1,5 +1,6 @@
 -- Free runs on: what is freed was neither active nor a link's target, and no entry wrote to it, since it was a table.
 use mathlib.Core.Bool.{false}
+use mathlib.Core.Logic.{inl}
 use mathlib.Core.Option.{some}
 use mathlib.Core.Path.{_≡_, refl, _∙_, ap}
 use Prim.Native.Nat.{ℕ, _+_, _-_, _%_, _<_, _≤_}
@@ -11,11 +12,13 @@ use Rattle.rules.specs.Tables.{typeD, typeCode, tableBlocks, tableEntrie
 use Rattle.rules.specs.General.{removed, retyped, someOverrun, tableOutside, otherType}
 use Rattle.rules.specs.Free.{freeRefusals, freeAfter, freeOutcome, inUse}
 use Rattle.rules.specs.Steps.{frees, Told, afterAccepted, typed}
+use Rattle.rules.specs.Outcomes.{leaving}
+use Rattle.rules.specs.Box.{grantsWrite}
 use Rattle.rules.proofs.Refusals.{Passed, front, now, rest}
 use Rattle.rules.proofs.Consistent.{Suits}
-use Rattle.rules.proofs.State.{typeAt, recorded, activeWord, Running, equal, within, types-told, Next, next-13}
+use Rattle.rules.proofs.State.{typeAt, recorded, activeWord, Running, equal, within, types-told, Goes, Next, next-13}
 use Rattle.rules.proofs.Changes.{removes}
-use Rattle.rules.proofs.Typing.{retold, typing-leaves, typing-replaces, stays, root-stays, other-table}
+use Rattle.rules.proofs.Typing.{retold, typing-leaves, typing-replaces, typing-marks, stays, root-stays, other-table}
 
 -- what passed the tests of a free
 record Freeable (v : Level) (s : Store) (p : ℕ) : Type 0 where
@@ -54,7 +57,8 @@ module _ (p : ℕ) {h : Told} {s : Store} (r : Running h s) where
       eqb-false (active s) p (can .unused) (r .active-is ∙ ap activeWord z ∙ same)
   not-root l2 q z can was x lo hi lo′ hi′ = other-table (h .types) p q (tableBlocks l2) (typeCode l2) x was (r .root q z .typed) (λ e. omega arith) lo hi lo′ hi′
 
-  freed : (v : Level) → Freeable v s p → (someOverrun removed s (tableEntries v) (tableEntry v s p) ≡ false) × Running (retold removed v p h) (retyped removed v s p)
+  freed : (v : Level) → Freeable v s p → (someOverrun removed s (tableEntries v) (tableEntry v s p) ≡ false) × Goes (grantsWrite s (frees v p)) (retold removed v p h) s (retyped removed v s p)
+  unfolding grantsWrite
   freed v can =
       let (low, high) = within (base s) (blocks s) p (tableBlocks v) (can .table-inside) in
       let was = types-told r v p (typeCode v) (can .table-inside) (can .typed) in
@@ -63,6 +67,7 @@ module _ (p : ℕ) {h : Told} {s : Store} (r : Running h s) where
         replaces = typing-replaces removed v p r low high was;
         carry = λ c b l k suits. stays removed v p r low high c b suits (λ lo hi. freed-suits c v b k (can .unused) lo hi (was-table v was c b lo hi suits));
         keep = λ b l x. refl;
+        marks = λ b l k. inl (typing-marks removed v p r low high b k);
       }) where
         was-table : (v : Level) → ((k : ℕ) → k < tableBlocks v → h .types (p + k) ≡ typeCode v) → (c : Counter) (b : ℕ) → p ≤ base s + b → base s + b < p + tableBlocks v
             → Suits c (typeAt (base s) h b) → Suits c (typeCode v)
@@ -70,7 +75,7 @@ module _ (p : ℕ) {h : Told} {s : Store} (r : Running h s) where
             let i : p + (base s + b - p) ≡ base s + b = omega arith in
             rw (rw i at (was (base s + b - p) (omega arith))) at suits
 
-pub free-next : (v : Level) (p : ℕ) {h : Told} {s : Store} → Running h s → Next h (frees v p) (freeOutcome v s p)
+pub free-next : (v : Level) (p : ℕ) {h : Told} {s : Store} → Running h s → Next h s (frees v p) (freeOutcome v s p)
 unfolding freeOutcome afterAccepted
 free-next v p {h} {s} r =
-    next-13 (frees v p) (freeAfter v s p) (freeRefusals v s p) r (omega arith) (omega arith) (omega arith) (λ tests. freed p r v (freeable v s p tests))
+    next-13 (frees v p) (leaving (freeAfter v s p)) (freeRefusals v s p) r (omega arith) (omega arith) (omega arith) (λ tests. freed p r v (freeable v s p tests))

@@ -17,17 +17,19 @@ use Rattle.entries.specs.Entries.{Entry, Level, l1, rights}
 use Rattle.entries.specs.Rights.{allows}
 use Rattle.entries.proofs.Decoding.{entryAt-cong}
 use Rattle.rules.specs.Refusals.{Refusal, _if_, answerOf}
-use Rattle.rules.specs.Store.{blockBytes, blockWords, Store, blocks, base, active, recordWord, Counter, writable, executable, counterWord, misfit}
-use Rattle.rules.specs.Signature.{contents, signedBlock}
+use Rattle.rules.specs.Store.{blockBytes, blockWords, basePlace, activePlace, Store, blocks, base, active, recordWord, Counter, writable, executable, counterWord, markWord, markValue, clearMark, misfit}
+use Rattle.rules.specs.Signature.{contents}
 use Rattle.rules.specs.Tables.{typeD, tableBlocks, grants, gives}
 use Rattle.rules.specs.General.{tableOutside, misaligned}
-use Rattle.rules.specs.Guest.{Walk, stops, ends, byteIndex, Access, reads, fetches, writes, needed, walkRefusals, noActiveTable, activeWalk, guestRefusals, written, byteGiven, guestAccepted, guestOutcome}
+use Rattle.rules.specs.Guest.{Walk, stops, ends, byteIndex, Access, reads, fetches, writes, needed, walkRefusals, noActiveTable, activeWalk, guestRefusals, written, unmarked, byteGiven, guestAccepted, guestOutcome}
 use Rattle.rules.specs.Steps.{accesses, Told, afterAccepted}
 use Rattle.rules.specs.Demand3.{KeepsTables, Fetched}
+use Rattle.rules.specs.Box.{grantsWrite, untold}
 use Rattle.rules.proofs.Refusals.{Passed, Avoids, now, rest, passed, avoided}
 use Rattle.rules.proofs.Memory.{contents-set, signedBlock-same}
 use Rattle.rules.proofs.Consistent.{Suits, counted, still}
-use Rattle.rules.proofs.State.{within, fit-same, entryOf, activeWord, Running, running, Next, next, settle-keeps, settle-accepted}
+use Rattle.rules.proofs.Ledger.{OnlyMarks, marks-none, marks-clear, mark-cleared, mark-clear-other}
+use Rattle.rules.proofs.State.{within, fit-same, entryOf, activeWord, signedAt, recorded, MarkedAt, Running, running, Goes, grows-none, Next, next, settle-keeps, settle-accepted}
 use Rattle.rules.proofs.Tables.{entryOf-data, typedEntry-same}
 use Rattle.rules.proofs.Walk.{Reached, Sensible, walk-sensible}
 
@@ -109,9 +111,6 @@ module _ {h : Told} {s : Store} (r : Running h s) where
 
   -- a byte written into data that cannot be executed
   module _ (b j v : ℕ) (in-block : j / blockBytes ≡ b) (free : h .types (base s + b) ≡ typeD) (unexecuted : recordWord (s .ledger) (counterWord executable) b ≡ 0) where
-    wrote : Store
-    wrote = record { memory = set (s .memory) j v; ledger = s .ledger }
-
     other-contents : (c : ℕ) → b ≢ c → contents (set (s .memory) j v) c ≡ contents (s .memory) c
     other-contents c o = contents-set (s .memory) j v c (λ l. omega arith)
 
@@ -125,26 +124,39 @@ module _ {h : Told} {s : Store} (r : Running h s) where
         away : (k : ℕ) → k / 16 ≡ i / 16 → word (set (s .memory) j v) (4 * k) ≡ word (s .memory) (4 * k)
         away k e = word-cong (set (s .memory) j v) (s .memory) (4 * k) (λ x lo hi. getD-set-other (s .memory) j x v 0 (λ q. o (omega arith)))
 
-    write-runs : Running h wrote
-    unfolding wrote signedBlock
-    write-runs = running (record {
-      told-base = r .told-base;
-      fit = fit-same wrote (r .fit) (length-set (s .memory) j v) refl;
-      base-is = refl;
-      active-is = r .active-is;
-      types-are = r .types-are;
-      root = r .root;
-      consistent = still (r .consistent) (λ i l. same-entry i)
-          (λ c l x. signedBlock-same (h .golden) (base s) (set (s .memory) j v) (s .memory) c (other-contents c (λ q. omega (arith, x, rw q at unexecuted))))
-          (λ c d l. refl);
-    })
+    same-signed : (c : ℕ) → b ≢ c → signedAt (base s) h (set (s .memory) j v) c ≡ signedAt (base s) h (s .memory) c
+    same-signed c o = signedBlock-same (h .golden) (base s) (set (s .memory) j v) (s .memory) c (other-contents c o)
 
-  -- an accepted access runs on and leaves the tables alone
-  guest-keeps : (a : Access) (addr : ℕ) → Arrived h s a addr → Running h (guestAccepted a s addr .store) × KeepsTables h s (guestAccepted a s addr .store)
-  unfolding written byteIndex needed grants wrote
-  guest-keeps reads addr t = (r, λ b l n. refl)
-  guest-keeps fetches addr t = (r, λ b l n. refl)
-  guest-keeps (writes v) addr t =
+    -- with a ledger that differs in marks only, and has no mark of this block, nor one that was not there
+    module _ (led : List ℕ) (only : OnlyMarks (s .ledger) led) (marks : (c : ℕ) → c < blocks s → recordWord led markWord c ≡ markValue → (b ≢ c) × MarkedAt s c) where
+      wrote : Store
+      wrote = record { memory = set (s .memory) j v; ledger = led }
+
+      write-runs : Running h wrote
+      unfolding wrote
+      write-runs = running (record {
+        told-base = r .told-base;
+        fit = fit-same wrote (r .fit) (length-set (s .memory) j v) (only .length-is);
+        base-is = only .head-is basePlace (omega arith);
+        active-is = only .head-is activePlace (omega arith) ∙ r .active-is;
+        types-are = λ c l. only .type-is c ∙ r .types-are c l;
+        root = r .root;
+        consistent = still (r .consistent) (λ i l. same-entry i) (λ c l x. same-signed c (λ q. omega (arith, x, rw q at unexecuted))) (λ c d l. only .counter-is c d);
+        believed = λ c l k. let (other, was) = marks c l k in same-signed c other ∙ r .believed c l was;
+      })
+
+  -- an accepted write: its place, and the block in which it lies
+  pub record Wrote (addr : ℕ) : Type 0 where
+    pub place : ℕ
+    pub inside : place / blockBytes < blocks s
+    pub counted-write : 0 < recorded s writable (place / blockBytes)
+    pub is-data : h .types (base s + place / blockBytes) ≡ typeD
+    pub unexecuted : recorded s executable (place / blockBytes) ≡ 0
+    pub place-is : byteIndex (base s) addr (activeWalk s addr) ≡ place
+
+  wrote-at : (v addr : ℕ) → Arrived h s (writes v) addr → Wrote addr
+  unfolding byteIndex needed grants
+  wrote-at v addr t =
       let e = t .reached in
       let low = e .low in
       let high = e .high in
@@ -152,12 +164,60 @@ module _ {h : Told} {s : Store} (r : Running h s) where
       let b = t .block - base s in
       let j = blockBytes * b + addr % blockBytes in
       let is : base s + b ≡ t .block = omega arith in
-      let free : h .types (base s + b) ≡ typeD = rw is is-data in
-      let unexecuted = r .consistent .exclusive b (omega arith) counts in
-      let in-block : j / blockBytes ≡ b = omega arith in
-      rw (t .walked) (
-        write-runs b j (v % 2 ^ 8) in-block free unexecuted,
-        λ c l table. other-contents b j (v % 2 ^ 8) in-block free unexecuted c (λ q. table (rw (r .told-base, ← q) free)),
+      let in-block : b ≡ j / blockBytes = omega arith in
+      record {
+        place = j;
+        inside = omega arith;
+        counted-write = subst (λ (c : ℕ). 0 < recorded s writable c) in-block counts;
+        is-data = subst (λ (c : ℕ). h .types (base s + c) ≡ typeD) in-block (rw is is-data);
+        unexecuted = subst (λ (c : ℕ). recorded s executable c ≡ 0) in-block (r .consistent .exclusive b (omega arith) counts);
+        place-is = rw (t .walked) refl;
+      }
+
+  module _ (v addr : ℕ) (w : Wrote addr) where
+    abbrev own : ℕ
+    own = w .place / blockBytes
+
+    write-guards : (led : List ℕ) → KeepsTables h s (record { memory = set (s .memory) (w .place) (v % 2 ^ 8); ledger = led })
+    write-guards led c l table = other-contents own (w .place) (v % 2 ^ 8) refl (w .is-data) (w .unexecuted) c (λ q. table (rw (r .told-base, ← q) (w .is-data)))
+
+    -- the call clears the mark
+    cleared-marks : (c : ℕ) → c < blocks s → recordWord (clearMark (s .ledger) own) markWord c ≡ markValue → (own ≢ c) × MarkedAt s c
+    cleared-marks c l k = (other, sym (mark-clear-other (s .ledger) own c other) ∙ k) where
+      other : own ≢ c
+      other q = omega (arith, rw (← q) at k, mark-cleared (s .ledger) own (blocks s) (r .fit .ledger-length) (w .inside))
+
+  -- an accepted access runs on and leaves the tables alone
+  guest-keeps : (a : Access) (addr : ℕ) (granted : ℕ → Bool) → Arrived h s a addr → Goes granted h s (guestAccepted a s addr .store) × KeepsTables h s (guestAccepted a s addr .store)
+  unfolding written unmarked wrote
+  guest-keeps reads addr granted t = (record { runs = r; grows = grows-none granted s s (marks-none (s .ledger)) (λ b l k. k) refl }, λ b l n. refl)
+  guest-keeps fetches addr granted t = (record { runs = r; grows = grows-none granted s s (marks-none (s .ledger)) (λ b l k. k) refl }, λ b l n. refl)
+  guest-keeps (writes v) addr granted t =
+      let w = wrote-at v addr t in
+      let b = own v addr w in
+      let only = marks-clear (s .ledger) b in
+      let marks = cleared-marks v addr w in
+      let after : Store = record { memory = set (s .memory) (w .place) (v % 2 ^ 8); ledger = clearMark (s .ledger) b } in
+      rw (w .place-is) (
+        record {
+          runs = write-runs b (w .place) (v % 2 ^ 8) refl (w .is-data) (w .unexecuted) (clearMark (s .ledger) b) only marks;
+          grows = grows-none granted s after only (λ c l k. marks c l k .1) (ap (λ (x : ℕ). x / blockBytes) (length-set (s .memory) (w .place) (v % 2 ^ 8)));
+        },
+        write-guards v addr w (clearMark (s .ledger) b),
+      )
+
+  -- the processor's own access, which leaves the ledger as it was, if it writes into no marked block
+  guest-keeps-unmarked : (a : Access) (addr : ℕ) → Arrived h s a addr → ((b : ℕ) → b < blocks s → 0 < recorded s writable b → MarkedAt s b → ⊥)
+      → (let after : Store = record { memory = guestAccepted a s addr .store .memory; ledger = s .ledger } in Running h after × KeepsTables h s after)
+  unfolding written wrote
+  guest-keeps-unmarked reads addr t spared = (r, λ b l n. refl)
+  guest-keeps-unmarked fetches addr t spared = (r, λ b l n. refl)
+  guest-keeps-unmarked (writes v) addr t spared =
+      let w = wrote-at v addr t in
+      let b = own v addr w in
+      rw (w .place-is) (
+        write-runs b (w .place) (v % 2 ^ 8) refl (w .is-data) (w .unexecuted) (s .ledger) (marks-none (s .ledger)) (λ c l k. (λ q. spared b (w .inside) (w .counted-write) (rw (← q) at k), k)),
+        write-guards v addr w (s .ledger),
       )
 
   -- an accepted fetch
@@ -181,19 +241,27 @@ module _ {h : Told} {s : Store} (r : Running h s) where
         signs = rw (r .told-base) (rw is at (r .consistent .signs (t .block - base s) (omega arith) runs));
       }
 
-  pub guest-next : (a : Access) (addr : ℕ) → Next h (accesses a addr) (guestOutcome a s addr)
+  pub guest-next : (a : Access) (addr : ℕ) → Next h s (accesses a addr) (guestOutcome a s addr)
   unfolding guestOutcome afterAccepted
   guest-next a addr =
       next (accesses a addr) (guestAccepted a s addr) (answerOf (guestRefusals a s addr)) r
       (guest-avoids a addr 13 (omega arith))
       (guest-avoids a addr 24 (omega arith))
-      (λ e. guest-keeps a addr (arrived a addr e) .0)
+      (λ e. guest-keeps a addr (grantsWrite s (accesses a addr)) (arrived a addr e) .0)
 
   pub guest-guarded : (a : Access) (addr : ℕ) → KeepsTables h s (guestOutcome a s addr .after)
   unfolding guestOutcome
   guest-guarded a addr =
       settle-keeps (KeepsTables h s) s (guestAccepted a s addr) (answerOf (guestRefusals a s addr))
-      (λ b l n. refl) (λ e. guest-keeps a addr (arrived a addr e) .1)
+      (λ b l n. refl) (λ e. guest-keeps a addr (λ q. false) (arrived a addr e) .1)
+
+  -- the same for the processor's own
+  pub guest-next-unmarked : (a : Access) (addr : ℕ) → ((b : ℕ) → b < blocks s → 0 < recorded s writable b → MarkedAt s b → ⊥)
+      → (let after = untold s (guestOutcome a s addr) .after in Running h after × KeepsTables h s after)
+  unfolding guestOutcome
+  guest-next-unmarked a addr spared =
+      settle-keeps (λ now. let after : Store = record { memory = now .memory; ledger = s .ledger } in Running h after × KeepsTables h s after) s (guestAccepted a s addr) (answerOf (guestRefusals a s addr))
+      (r, λ b l n. refl) (λ e. guest-keeps-unmarked a addr (arrived a addr e) spared)
 
   pub guest-fetched : (addr : ℕ) → guestOutcome fetches s addr .answer ≡ 0 → Fetched h s addr (guestOutcome fetches s addr .byte)
   unfolding guestOutcome

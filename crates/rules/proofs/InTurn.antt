@@ -1,7 +1,7 @@
 -- A signed page that one entry alone maps can be made writable and executable in turn: once the entry is gone no counter of the page is
 -- above 0, so that nothing is held against the next one.
 use mathlib.Core.Bool.{Bool, true, false, not, _&&_, and-false}
-use mathlib.Core.List.{[], _∷_}
+use mathlib.Core.List.{List, [], _∷_}
 use mathlib.Core.Logic.{_≢_}
 use mathlib.Core.Path.{_≡_, refl, sym, _∙_, ap, subst}
 use Prim.Native.Nat.{ℕ, _+_, _-_, _*_, _%_, _^_, _<_, _≤_}
@@ -17,18 +17,20 @@ use Rattle.entries.specs.Written.{wordOf, cacheable}
 use Rattle.entries.specs.Rights.{write, execute, allows}
 use Rattle.entries.specs.Rights.{unlawfulRights}
 use Rattle.entries.proofs.RoundTrip.{Single, a-fault, a-link, a-section, a-page, singly, Grantable, none, read, readWrite, readExecute}
-use Rattle.rules.specs.Store.{blockWords, counterLimit, Store, blocks, base, Counter, writable, executable, counter, typeOf, someBlock, fill}
-use Rattle.rules.specs.Signature.{signedBlock}
+use Rattle.rules.specs.Store.{marked, blockWords, counterLimit, Store, blocks, base, Counter, writable, executable, counter, typeOf, someBlock, fill}
+use Rattle.rules.specs.Signature.{signedBlock, unknown}
 use Rattle.rules.specs.Tables.{typeD, typeCode, tableEntries, pages, wordIndex, tableEntry, grants, gives, gain}
 use Rattle.rules.specs.General.{tableOutside, otherType, holder, executableHolder, Change, added, removed, endValue, recounted, occupied, entered}
-use Rattle.rules.specs.Map.{unfitTarget, clashingTarget, unsignedTarget, mapRefusals, mapOutcome}
+use Rattle.rules.specs.Outcomes.{leaving}
+use Rattle.rules.specs.Map.{unfitTarget, clashingTarget, unsignedTarget, mapRefusals, mapAccepted, mapOutcome}
 use Rattle.rules.specs.Unmap.{unmapRefusals, unmapAfter, unmapOutcome}
-use Rattle.rules.specs.Steps.{Step, maps, unmaps, obey, run, Told, afterAccepted}
+use Rattle.rules.specs.Steps.{Step, maps, unmaps, obey, run, runBy, Told, afterAccepted}
 use Rattle.rules.specs.Policies.{forAnother, WritableByOneEntry, thereAndBack}
 use Rattle.rules.proofs.Refusals.{Passed, done, step}
 use Rattle.rules.proofs.Gains.{gives-fault, gives-within, gain-most}
 use Rattle.rules.proofs.Memory.{length-fill, entryAt-fill, contents-fill, signedBlock-same}
 use Rattle.rules.proofs.Consistent.{Sound, counted, counts-limit}
+use Rattle.rules.proofs.Ledger.{OnlyMarks, marks-clear, marks-both, marks-set}
 use Rattle.rules.proofs.State.{inside, typeAt, recorded, entryOf, Inv, Running, safe, type-told}
 use Rattle.rules.proofs.Tables.{entryOf-table}
 use Rattle.rules.proofs.Walk.{cover-within}
@@ -86,16 +88,16 @@ module _ {h : Told} {s : Store} (r : Running h s) {p i t : ℕ} {e : Entry} (a :
         counted (r .consistent) c (t - base s) j (omega arith) (omega arith) (rw (is, at) g)
 
   -- what is left when y stands where the entry stood, and what x 0 gives has been added to the counters or removed
-  module _ (d : Change) (x : ℕ → Entry) (y : Entry) where
+  module _ (d : Change) (x : ℕ → Entry) (y : Entry) {led : List ℕ} (only : OnlyMarks (recounted d s 1 x) led) where
     abbrev after : Store
-    after = record { memory = fill (s .memory) (wordIndex s p i) 1 (λ k. wordOf cacheable y); ledger = recounted d s 1 x }
+    after = record { memory = fill (s .memory) (wordIndex s p i) 1 (λ k. wordOf cacheable y); ledger = led }
 
     left : (c : Counter) (q : ℕ) → base s ≤ q → q < base s + blocks s → recorded after c (q - base s) ≡ endValue d (recorded s c (q - base s)) (num (gives c (x 0) q))
     left c q lo hi =
         let at : base s + (q - base s) ≡ q = omega arith in
         let is : end d s 1 x c (q - base s) ≡ endValue d (recorded s c (q - base s)) (num (gives c (x 0) q)) = rw (at, gain-one x c q) refl in
         let small = end-small d (recorded s c (q - base s)) (gain 1 x c (base s + (q - base s))) (counts-limit (r .consistent) (r .fit .at-most) c (q - base s) (omega arith)) (gain-most 1 x c _) in
-        counter-recounted d s 1 x (r .fit .ledger-length) c (q - base s) (omega arith) small ∙ is
+        only .counter-is c (q - base s) ∙ counter-recounted d s 1 x (r .fit .ledger-length) c (q - base s) (omega arith) small ∙ is
 
     edit-alone : Single l2 y
         → endValue d (recorded s writable (t - base s)) (num (gives writable (x 0) t)) + endValue d (recorded s executable (t - base s)) (num (gives executable (x 0) t)) ≡ num (gives writable y t) + num (gives executable y t)
@@ -148,7 +150,7 @@ module _ {h : Told} {s : Store} (r : Running h s) {p i t : ℕ} {e : Entry} (a :
       let is : tableEntry l2 s p (i + 0) ≡ e = ap (tableEntry l2 s p) (add-zero i) ∙ a .holds in
       let w = given-counted writable in
       let x = given-counted executable in
-      edit-alone removed (λ k. tableEntry l2 s p (i + k)) fault a-fault
+      edit-alone removed (λ k. tableEntry l2 s p (i + k)) fault (marks-clear _ (holder p i - base s)) a-fault
       (rw (is, gives-fault writable t, gives-fault executable t) (omega (arith, a .only)))
       (omega (arith, a .holder-unexecuted))
 
@@ -186,20 +188,20 @@ module _ {h : Told} {s : Store} (r : Running h s) {p i t q : ℕ} (a : Alone (ba
       rw (grantable-lawful g .1, none executable x, none writable w, and-false (allows q write)) (and-false (allows q execute))
 
   signed-target : unsignedTarget pages (h .golden) s t q ≡ false
-  unfolding unsignedTarget
-  signed-target = rw (one-block t (λ b. not (signedBlock (h .golden) (base s) (s .memory) b)) (ap not (a .signs))) (and-false (allows q execute))
+  unfolding unsignedTarget unknown
+  signed-target = rw (one-block t (unknown (h .golden) s) (rw (a .signs) (and-false (not (marked s t))))) (and-false (allows q execute))
 
   map-passes : Passed (take 14 (mapRefusals pages (h .golden) s p i t q))
   map-passes =
       step (no-misfit r) (step image (step (table-inside r a) (step (same (p % 1) 0 (mod-one p)) (step (same (t % 1) 0 (mod-one t)) (step (same (i % 1) 0 (mod-one i)) (step (lt-leb (tableEntries l2) i (a .index)) (step (typed r a) (step (unexecuted r a)
       (step vacant (step (grantable-lawful g .0) (step fit-target (step clear-target (step signed-target done)))))))))))))
 
-  map-alone : Alone (base s) h (entered s p i 1 (λ k. page t q)) p i t (page t q)
+  map-alone : Alone (base s) h (mapAccepted pages s p i t q .store) p i t (page t q)
   unfolding endValue num coverFirst placeFirst coverBlocks placeBlocks
   map-alone =
       let (w, x) = uncounted in
       let spared : gives executable (page t q) p ≡ false = false-unless (gives executable (page t q) p) (λ e. let (_, lo, hi) = gives-within executable (page t q) p e in other r a (omega arith)) in
-      edit-alone r a added (λ k. page t q) (page t q) (a-page (omega (arith, r .fit .physical)) g) (omega arith) (rw spared (omega (arith, a .holder-unexecuted)))
+      edit-alone r a added (λ k. page t q) (page t q) (marks-both (marks-clear _ (holder p i - base s)) (marks-set _ _ (blocks s))) (a-page (omega (arith, r .fit .physical)) g) (omega arith) (rw spared (omega (arith, a .holder-unexecuted)))
 
 -- One step
 
@@ -220,13 +222,13 @@ module _ {h : Told} {s : Store} (r : Running h s) {p i t : ℕ} where
   unfolding obey unmapOutcome afterAccepted
   unmap-goes {e} alone =
       let a = subst (λ (b : ℕ). Alone b h s p i t e) (r .told-base) alone in
-      goes r (taken r (unmaps pages p i) _ (unmapAfter pages s p i) refl (unmap-passes r a)) refl (unmap-alone r a)
+      goes r (taken r (unmaps pages p i) _ (leaving (unmapAfter pages s p i)) refl (unmap-passes r a)) refl (unmap-alone r a)
 
   pub map-goes : {q : ℕ} → misfitImage (h .golden) ≡ false → Grantable q → Alone (h .B) h s p i t fault → Went h s (maps pages p i t q) p i t (page t q)
   unfolding obey mapOutcome afterAccepted
   map-goes {q} image g alone =
       let a = subst (λ (b : ℕ). Alone b h s p i t fault) (r .told-base) alone in
-      goes r (taken r (maps pages p i t q) _ (entered s p i 1 (λ k. page t q)) refl (map-passes r a image g)) refl (map-alone r a image g)
+      goes r (taken r (maps pages p i t q) _ (mapAccepted pages s p i t q) refl (map-passes r a image g)) refl (map-alone r a image g)
 
 -- A page that is mapped to be read and written
 
@@ -287,7 +289,7 @@ module _ {h : Told} {s : Store} (r : Running h s) {p i t : ℕ} where
 
 pub in-turn : {h : Told} {s : Store} → Running h s → {p i t : ℕ} → misfitImage (h .golden) ≡ false → WritableByOneEntry h s p i t
     → run (h .golden) s (thereAndBack p i t) .answers ≡ (0 ∷ 0 ∷ 0 ∷ 0 ∷ [])
-unfolding run
+unfolding runBy
 in-turn r image w =
     let a = unmap-goes r (alone-of r w) in
     let b = map-goes (a .runs) image readExecute (a .alone) in

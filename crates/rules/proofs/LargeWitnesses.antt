@@ -6,6 +6,7 @@ use mathlib.Core.Logic.{_≢_}
 use mathlib.Core.Path.{_≡_, refl, _∙_, ap}
 use Prim.Native.Nat.{ℕ, _+_, _-_, _*_, _/_, _%_, _^_, _<_, _≤_}
 use native.Mathlib.Omega.{arith}
+use lib.Dec.{eqb}
 use lib.ListN.{length, drop}
 use borrow.Author.Tests.{lt-ltb}
 use Rattle.words.specs.Bounded.{above, neqb, any}
@@ -19,10 +20,10 @@ use Rattle.entries.specs.Rights.{allows, unlawfulRights}
 use Rattle.entries.proofs.RoundTrip.{Grantable, read, readWrite, a-link, singly, in-run}
 use Rattle.entries.proofs.Decoding.{entryAt-cong}
 use Rattle.rules.specs.Refusals.{answerOf}
-use Rattle.rules.specs.Store.{blockBytes, blockWords, ledgerHeadBytes, ledgerRecordBytes, counterLimit, basePlace, Store, blocks, base, putRecordWord, recordWord, retype, typeWord, typeOf, Counter, writable, executable, counterWord, counter, someCounter, fill, outside, someBlock}
+use Rattle.rules.specs.Store.{markWord, markValue, marked, blockBytes, blockWords, ledgerHeadBytes, ledgerRecordBytes, counterLimit, basePlace, Store, blocks, base, putRecordWord, recordWord, retype, typeWord, typeOf, Counter, writable, executable, counterWord, counter, someCounter, fill, outside, someBlock}
 use Rattle.rules.specs.Outcomes.{settle}
 use Rattle.rules.specs.Tables.{typeD, typeCode, l2Words, pages, larges, mapping, takes, wordIndex, tableEntry, grants, gives, gain, astray}
-use Rattle.rules.specs.Signature.{signedBlock}
+use Rattle.rules.specs.Signature.{signedBlock, unknown}
 use Rattle.rules.specs.General.{Change, added, removed, endValue, endsBelow, overruns, someOverrun}
 use Rattle.rules.specs.Map.{unfitTarget, clashingTarget, unsignedTarget, mapRefusals, mapOutcome}
 use Rattle.rules.specs.Link.{linkTo}
@@ -34,7 +35,7 @@ use Rattle.rules.proofs.Gains.{gain-most, gain-hit}
 use Rattle.rules.proofs.Memory.{length-fill, word-fill-other, entryAt-fill}
 use Rattle.rules.proofs.Accepted.{map-enters, large-grants}
 use Rattle.rules.proofs.State.{inside, some-block-hit, some-counter-hit}
-use Rattle.rules.proofs.Ledger.{InRecord, counter-in-record, counter-not-type, length-putRecordWord, head-putRecordWord, recordWord-put-same, recordWord-put-other, counter-retype, type-retype-out}
+use Rattle.rules.proofs.Ledger.{InRecord, counter-in-record, counter-not-type, length-putRecordWord, head-putRecordWord, recordWord-put-same, recordWord-put-other, counter-retype, type-retype-out, mark-retype}
 use Rattle.rules.proofs.Acceptance.{Ready, Vacant, ReadTarget, nothing-gained, reads-give-nothing, map-from-9, map-accepted, unmap-from-8}
 use Rattle.rules.proofs.Edges.{blankLedger, wide, wide-blocks, wide-table, length-wide, wide-base}
 use Rattle.rules.proofs.SmallStores.{zeros, length-zeros, zero-entry, zero-record, unsigned, length-memory, first-entry, ledger, smallStore, fit, unfit, oneL2}
@@ -87,6 +88,11 @@ wide-counter c b =
     recordWord-put-other (retype blankLedger 0 4 (typeCode l1)) typeWord 4 (typeCode l2) (counterWord c) b (omega arith) (counter-in-record c) (λ _. counter-not-type c)
     ∙ counter-retype blankLedger 0 4 (typeCode l1) c b ∙ zero-record (ledgerHeadBytes + ledgerRecordBytes * 256) (counterWord c) b
 
+wide-mark : (b : ℕ) → recordWord (wide .ledger) markWord b ≡ 0
+wide-mark b =
+    recordWord-put-other (retype blankLedger 0 4 (typeCode l1)) typeWord 4 (typeCode l2) markWord b (omega arith) (omega arith) (λ _ z. omega arith)
+    ∙ mark-retype blankLedger 0 4 (typeCode l1) b ∙ zero-record (ledgerHeadBytes + ledgerRecordBytes * 256) markWord b
+
 -- the same with this w of block 20, and a memory
 abbrev writesTo20 : ℕ → List ℕ
 writesTo20 count = putRecordWord (wide .ledger) (counterWord writable) 20 count
@@ -121,6 +127,9 @@ module _ (mem : List ℕ) (long : length mem ≡ blockBytes * 256) (count : ℕ)
 
   unwritten : (b : ℕ) → 20 < b → counter writable s b ≡ 0
   unwritten b h = kept (counterWord writable) b (omega arith) (λ e _. omega arith) ∙ wide-counter writable b
+
+  unmarked : (b : ℕ) → marked s b ≡ false
+  unmarked b = ap (λ (x : ℕ). eqb x markValue) (kept markWord b (omega arith) (λ _ z. omega arith) ∙ wide-mark b)
 
   written : count < 2 ^ 32 → counter writable s 20 ≡ count
   written h = rw based (recordWord-put-same (wide .ledger) (counterWord writable) 20 count (omega arith) 256 length-wide (omega arith) h)
@@ -204,11 +213,11 @@ unfolding unlawfulRights allows unfitTarget clashingTarget
 map-11 = map-wide 0 16 7 refl (past refl (past (rw (in-region empty long 0 16 (omega arith), all-data empty long 0 16 (omega arith)) refl) (here refl)))
 
 map-12 : mapOutcome larges [] (vacant 0) 4 0 32 5 .answer ≡ 12
-unfolding unlawfulRights allows unfitTarget clashingTarget unsignedTarget
+unfolding unlawfulRights allows unfitTarget clashingTarget unsignedTarget unknown
 map-12 =
     let s = vacant 0 in
     map-wide 0 32 5 refl (past refl (past (rw (in-region empty long 0 32 (omega arith)) refl) (past (rw (none-writable empty long 0 32 (omega arith)) refl)
-    (here (some-block-hit 32 16 (λ b. not (signedBlock [] (base s) empty b)) 32 (omega arith) (omega arith) (ap not (unsigned empty (base s) 32)))))))
+    (here (some-block-hit 32 16 (unknown [] s) 32 (omega arith) (omega arith) (rw (unmarked empty long 0 32, unsigned empty (base s) 32) refl))))))
 
 -- the w of block 20 is at the limit already
 map-13 : mapOutcome larges [] (vacant counterLimit) 4 0 16 3 .answer ≡ 13

@@ -1,14 +1,16 @@
--- Laws of the ledger: a word of a record is changed by storing that word only, so types and counters can be changed apart.
+-- Laws of the ledger: a word of a record is changed by storing that word only, so types, counters and marks can be changed apart.
+use mathlib.Core.Bool.{Bool, true, false, cond}
 use mathlib.Core.List.{List}
-use mathlib.Core.Logic.{_≢_, ⊎-elim}
+use mathlib.Core.Logic.{_≢_, _⊎_, inl, inr, ⊎-elim}
 use mathlib.Core.Path.{_≡_, refl, sym, _∙_}
 use Prim.Native.Nat.{ℕ, zero, suc, _+_, _*_, _^_, _<_, _≤_}
+use native.Mathlib.Decide.{ℕ-discrete}
 use native.Mathlib.Omega.{arith}
 use lib.ListN.{length}
 use Rattle.words.specs.Words.{word, putWord}
 use Rattle.words.proofs.Bounded.{last-or-below, below-or-above, among-in, among-out}
 use Rattle.words.proofs.Words.{length-putWord, word-putWord-same, word-putWord-other}
-use Rattle.rules.specs.Store.{ledgerHeadBytes, ledgerRecordBytes, recordWord, putRecordWord, typeWord, Counter, writable, executable, linked, counterWord, retype, putCounters, recount}
+use Rattle.rules.specs.Store.{ledgerHeadBytes, ledgerRecordBytes, recordWord, putRecordWord, typeWord, Counter, writable, executable, linked, counterWord, markWord, markValue, retype, putCounters, recount, clearMark, clearMarks, markBlocks}
 use Rattle.rules.specs.Steps.{typed}
 
 -- One word of a record
@@ -26,6 +28,11 @@ pub counter-not-type : (c : Counter) → typeWord ≢ counterWord c
 counter-not-type writable = λ e. omega arith
 counter-not-type executable = λ e. omega arith
 counter-not-type linked = λ e. omega arith
+
+pub counter-not-mark : (c : Counter) → markWord ≢ counterWord c
+counter-not-mark writable = λ e. omega arith
+counter-not-mark executable = λ e. omega arith
+counter-not-mark linked = λ e. omega arith
 
 -- two words of records that are not the same lie apart
 records-apart : (k b j c : ℕ) → InRecord k → InRecord j → (b ≡ c → k ≢ j)
@@ -87,6 +94,11 @@ module _ (led : List ℕ) (b m t : ℕ) where
       retype-keeps (λ l. recordWord l (counterWord c) j) led b m t
       (λ l i lo hi. recordWord-put-other l typeWord i t (counterWord c) j (omega arith) (counter-in-record c) (λ e. counter-not-type c))
 
+  pub mark-retype : (j : ℕ) → recordWord (retype led b m t) markWord j ≡ recordWord led markWord j
+  mark-retype j =
+      retype-keeps (λ l. recordWord l markWord j) led b m t
+      (λ l i lo hi. recordWord-put-other l typeWord i t markWord j (omega arith) (omega arith) (λ e z. omega arith))
+
   pub type-retype-out : (j : ℕ) → (b ≤ j → b + m ≤ j) → recordWord (retype led b m t) typeWord j ≡ recordWord led typeWord j
   type-retype-out j o =
       retype-keeps (λ l. recordWord l typeWord j) led b m t
@@ -117,6 +129,11 @@ module _ (led : List ℕ) (n : ℕ) (f : Counter → ℕ → ℕ) where
   type-recount j =
       recount-keeps (λ l. recordWord l typeWord j) led n f
       (λ l c b v i. recordWord-put-other l (counterWord c) b v typeWord j (counter-in-record c) (omega arith) (λ e z. counter-not-type c (sym z)))
+
+  pub mark-recount : (j : ℕ) → recordWord (recount led n f) markWord j ≡ recordWord led markWord j
+  mark-recount j =
+      recount-keeps (λ l. recordWord l markWord j) led n f
+      (λ l c b v i. recordWord-put-other l (counterWord c) b v markWord j (counter-in-record c) (omega arith) (λ e z. counter-not-mark c (sym z)))
 
 -- the counters of one block
 module _ (led : List ℕ) (b : ℕ) (f : Counter → ℕ) where
@@ -157,6 +174,88 @@ counter-recount led (suc k) n f e le c b l h =
     (λ (q : b ≡ k). rw q (counter-put-same (recount led k f) k (λ d. f d k) n (length-recount led k f ∙ e) (omega arith) c (rw q at h)))
     (λ (s : b < k). counter-put-other (recount led k f) k (λ d. f d k) c b (λ q. omega arith) ∙ counter-recount led k n f e (omega arith) c b s h)
     (last-or-below l)
+
+-- Marks
+
+-- two ledgers that differ in marks only
+pub record OnlyMarks (led after : List ℕ) : Type 0 where
+  pub length-is : length after ≡ length led
+  pub head-is : (a : ℕ) → a + 4 ≤ ledgerHeadBytes → word after a ≡ word led a
+  pub type-is : (b : ℕ) → recordWord after typeWord b ≡ recordWord led typeWord b
+  pub counter-is : (c : Counter) (b : ℕ) → recordWord after (counterWord c) b ≡ recordWord led (counterWord c) b
+
+marks-put : (led : List ℕ) (b v : ℕ) → OnlyMarks led (putRecordWord led markWord b v)
+marks-put led b v =
+    record {
+      length-is = length-putRecordWord led markWord b v;
+      head-is = head-putRecordWord led markWord b v;
+      type-is = λ j. recordWord-put-other led markWord b v typeWord j (omega arith) (omega arith) (λ _ e. omega arith);
+      counter-is = λ c j. recordWord-put-other led markWord b v (counterWord c) j (omega arith) (counter-in-record c) (λ _. counter-not-mark c);
+    }
+
+pub marks-none : (led : List ℕ) → OnlyMarks led led
+marks-none led = record { length-is = refl; head-is = λ a h. refl; type-is = λ b. refl; counter-is = λ c b. refl }
+
+pub marks-both : {led middle after : List ℕ} → OnlyMarks led middle → OnlyMarks middle after → OnlyMarks led after
+marks-both f g =
+    record {
+      length-is = g .length-is ∙ f .length-is;
+      head-is = λ a h. g .head-is a h ∙ f .head-is a h;
+      type-is = λ b. g .type-is b ∙ f .type-is b;
+      counter-is = λ c b. g .counter-is c b ∙ f .counter-is c b;
+    }
+
+-- the mark of a block that was cleared, and of another
+module _ (led : List ℕ) (b : ℕ) where
+  pub marks-clear : OnlyMarks led (clearMark led b)
+  marks-clear = marks-put led b 0
+
+  pub mark-cleared : (n : ℕ) → length led ≡ ledgerHeadBytes + ledgerRecordBytes * n → b < n → recordWord (clearMark led b) markWord b ≡ 0
+  mark-cleared n e l = recordWord-put-same led markWord b 0 (omega arith) n e l (omega arith)
+
+  pub mark-clear-other : (j : ℕ) → b ≢ j → recordWord (clearMark led b) markWord j ≡ recordWord led markWord j
+  mark-clear-other j o = recordWord-put-other led markWord b 0 markWord j (omega arith) (omega arith) (λ e. absurd (o e))
+
+module _ (led : List ℕ) (b : ℕ) where
+  pub marks-clear-all : (m : ℕ) → OnlyMarks led (clearMarks led b m)
+  unfolding clearMarks
+  marks-clear-all zero = marks-none led
+  marks-clear-all (suc m) = marks-both (marks-clear-all m) (marks-clear (clearMarks led b m) (b + m))
+
+  pub mark-all-cleared : (m n : ℕ) → length led ≡ ledgerHeadBytes + ledgerRecordBytes * n → b + m ≤ n → (j : ℕ) → b ≤ j → j < b + m → recordWord (clearMarks led b m) markWord j ≡ 0
+  unfolding clearMarks
+  mark-all-cleared zero n e le j lo hi = let z : ⊥ = omega arith in absurd z
+  mark-all-cleared (suc m) n e le j lo hi =
+      ⊎-elim
+      (λ (q : j ≡ b + m). rw q (mark-cleared (clearMarks led b m) (b + m) n (marks-clear-all m .length-is ∙ e) (omega arith)))
+      (λ (s : j < b + m). mark-clear-other (clearMarks led b m) (b + m) j (λ q. omega arith) ∙ mark-all-cleared m n e (omega arith) j lo s)
+      (last-or-below {i = j} {n = b + m} (omega arith))
+
+  pub mark-not-cleared : (m j : ℕ) → (b ≤ j → b + m ≤ j) → recordWord (clearMarks led b m) markWord j ≡ recordWord led markWord j
+  unfolding clearMarks
+  mark-not-cleared zero j o = refl
+  mark-not-cleared (suc m) j o = mark-clear-other (clearMarks led b m) (b + m) j (λ q. omega (arith, o (omega arith))) ∙ mark-not-cleared m j (λ h. omega (arith, o h))
+
+module _ (led : List ℕ) (q : ℕ → Bool) where
+  pub marks-set : (n : ℕ) → OnlyMarks led (markBlocks led n q)
+  unfolding markBlocks
+  marks-set zero = marks-none led
+  marks-set (suc n) = go (marks-set n) (q n) where
+    go : OnlyMarks led (markBlocks led n q) → (t : Bool) → OnlyMarks led (cond t (putRecordWord (markBlocks led n q) markWord n markValue) (markBlocks led n q))
+    go before true = marks-both before (marks-put (markBlocks led n q) n markValue)
+    go before false = before
+
+  -- a block that is marked afterwards has q, or was marked before
+  pub mark-set : (n b : ℕ) → recordWord (markBlocks led n q) markWord b ≡ markValue → (q b ≡ true) ⊎ (recordWord led markWord b ≡ markValue)
+  unfolding markBlocks
+  mark-set zero b e = inr e
+  mark-set (suc n) b e = go (q n) refl (ℕ-discrete b n) (mark-set n b) e where
+    go : (t : Bool) → q n ≡ t → Dec (b ≡ n) → (recordWord (markBlocks led n q) markWord b ≡ markValue → (q b ≡ true) ⊎ (recordWord led markWord b ≡ markValue))
+        → recordWord (cond t (putRecordWord (markBlocks led n q) markWord n markValue) (markBlocks led n q)) markWord b ≡ markValue
+        → (q b ≡ true) ⊎ (recordWord led markWord b ≡ markValue)
+    go false is z before e = before e
+    go true is (yes z) before e = inl (rw z is)
+    go true is (no o) before e = before (sym (recordWord-put-other (markBlocks led n q) markWord n markValue markWord b (omega arith) (omega arith) (λ z. absurd (o (sym z)))) ∙ e)
 
 -- What the steps told of types
 

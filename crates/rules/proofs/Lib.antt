@@ -16,7 +16,9 @@ pub mod Edits
 pub mod Unmapping
 pub mod Linking
 pub mod Mapping
+pub mod Lists
 pub mod Demand3
+pub mod Box
 pub mod Passing
 pub mod Accessible
 pub mod Removals
@@ -34,4 +36,5 @@ pub mod Fetching
 pub mod Acceptance
 pub mod Edges
 pub mod LargeWitnesses
+pub mod MarkWitnesses
 pub mod Ascending

@@ -1,9 +1,11 @@
 -- Link runs on: it leads to an L2 block, gives the guest nothing, and is written into a block that cannot be executed.
 use mathlib.Core.Bool.{true, false, false≢true}
+use mathlib.Core.Logic.{inl, inr, ⊎-elim}
 use mathlib.Core.Path.{_≡_, refl, sym, _∙_}
 use Prim.Native.Nat.{ℕ, _+_, _*_, _/_, _<_, _≤_}
 use native.Mathlib.Omega.{arith}
 use borrow.Author.Tests.{leb-false}
+use Rattle.words.specs.Bounded.{above}
 use Rattle.entries.specs.Entries.{fault, l1, l2, isFault, isUnaccepted, isLink, isSection, isPage, rights, placeFirst, coverFirst, placeBlocks, coverBlocks, blockTables}
 use Rattle.entries.specs.Rights.{allows}
 use Rattle.entries.proofs.RoundTrip.{Encodable, singly, a-link}
@@ -12,10 +14,13 @@ use Rattle.rules.specs.Tables.{typeCode, tableBlocks, wordIndex, grants,
 use Rattle.rules.specs.General.{occupied, entered, tableOutside, beyondTable, otherType, holder, executableHolder, added, someOverrun}
 use Rattle.rules.specs.Link.{linkTo, linkRefusals, linkOutcome}
 use Rattle.rules.specs.Steps.{links, Told, afterAccepted}
+use Rattle.rules.specs.Outcomes.{leaving}
+use Rattle.rules.specs.Box.{grantsWrite}
 use Rattle.rules.proofs.Refusals.{Passed, front, now, rest}
 use Rattle.rules.proofs.Gains.{gives-within, gain-none}
 use Rattle.rules.proofs.Consistent.{Suits, Sound}
-use Rattle.rules.proofs.State.{typeAt, Fit, fits, Running, equal, within, type-told, Next, next-13}
+use Rattle.rules.proofs.State.{typeAt, recorded, Fit, fits, Running, equal, within, type-told, Goes, Next, next-13}
+use Rattle.rules.proofs.Changes.{adds}
 use Rattle.rules.proofs.Edits.{Apart, as-singles, slot, Harmless, enters}
 
 -- what passed the tests of a link, whatever the store
@@ -90,13 +95,18 @@ module _ (p i t j : ℕ) {h : Told} {s : Store} (r : Running h s) (can : Linkabl
   unfolding isFault isSection isLink isPage
   link-beside = as-singles (λ k _. (refl, refl))
 
-  linked-to : (someOverrun added s 1 (λ k. linkTo t j) ≡ false) × Running h (entered s p i 1 (λ k. linkTo t j))
+  linked-to : (someOverrun added s 1 (λ k. linkTo t j) ≡ false) × Goes (grantsWrite s (links p i t j)) h s (entered s p i 1 (λ k. linkTo t j))
+  unfolding grantsWrite grants allows rights
   linked-to =
       let sl = slot r l1 p i 1 (omega arith) (can .table-inside) (can .index-inside) (can .typed) (can .unexecuted-holder) in
-      enters r l1 p i 1 sl (λ k. linkTo t j) link-harmless (link-written (wordIndex s p i) can) link-beside (can .free) (λ k l. link-sound)
+      let (change, fresh) = enters r l1 p i 1 sl (λ k. linkTo t j) link-harmless (link-written (wordIndex s p i) can) link-beside (can .free) (λ k l. link-sound) in
+      let (no-13, goes) = adds r change fresh in
+      let none : (q : ℕ) → above (gain 1 (λ k. linkTo t j) writable q) 0 ≡ false = λ q. rw (link-gives writable q refl) refl in
+      let g = goes .grows in
+      (no-13, record { runs = goes .runs; grows = record { writes = λ b l w. ⊎-elim (λ (was : 0 < recorded s writable b). inl was) (λ (z : above (gain 1 (λ k. linkTo t j) writable (base s + b)) 0 ≡ true). inr (sym (none (base s + b)) ∙ z)) (g .writes b l w); marks = g .marks; same-blocks = g .same-blocks } })
 
-pub link-next : (p i t j : ℕ) {h : Told} {s : Store} → Running h s → Next h (links p i t j) (linkOutcome s p i t j)
+pub link-next : (p i t j : ℕ) {h : Told} {s : Store} → Running h s → Next h s (links p i t j) (linkOutcome s p i t j)
 unfolding linkOutcome afterAccepted
 link-next p i t j {h} {s} r =
-    next-13 (links p i t j) (entered s p i 1 (λ k. linkTo t j)) (linkRefusals s p i t j) r (omega arith) (omega arith) (omega arith)
+    next-13 (links p i t j) (leaving (entered s p i 1 (λ k. linkTo t j))) (linkRefusals s p i t j) r (omega arith) (omega arith) (omega arith)
     (λ tests. linked-to p i t j r (linkable s p i t j tests))

@@ -14,16 +14,17 @@ use Rattle.entries.specs.Rights.{allows, unlawfulRights}
 use Rattle.entries.proofs.Covers.{cover-low, cover-high}
 use Rattle.entries.proofs.RoundTrip.{Grantable, none, read, readWrite, readExecute, a-section, a-page, Encodable, singly, in-run}
 use Rattle.rules.specs.Store.{Store, blocks, base, recordWord, Counter, writable, executable, linked, counterWord, counter, typeOf, outside, someBlock}
-use Rattle.rules.specs.Signature.{signedBlock}
+use Rattle.rules.specs.Signature.{unknown}
 use Rattle.rules.specs.Tables.{typeD, typeCode, Form, sections, pages, larges, level, targetBlocks, mappingWords, mapping, wordIndex, grants, gives, gain, astray}
 use Rattle.rules.specs.General.{tableOutside, misaligned, beyondTable, otherType, executableHolder, occupied, holder, added, someOverrun, entered}
-use Rattle.rules.specs.Map.{unfitTarget, clashingTarget, unsignedTarget, mapRefusals, mapOutcome}
+use Rattle.rules.specs.Map.{unfitTarget, clashingTarget, unsignedTarget, mapRefusals, mapAccepted, mapOutcome}
 use Rattle.rules.specs.Steps.{maps, Told, afterAccepted}
+use Rattle.rules.specs.Box.{grantsWrite}
 use Rattle.rules.proofs.Refusals.{Passed, front, now, rest}
 use Rattle.rules.proofs.Gains.{gives-within, gain-none, gain-found}
 use Rattle.rules.proofs.Consistent.{Suits, Sound}
-use Rattle.rules.proofs.State.{Fit, fits, Running, equal, within, no-block-at, type-told, Next, next-13}
-use Rattle.rules.proofs.Changes.{counter-none}
+use Rattle.rules.proofs.State.{Fit, fits, Running, equal, within, no-block-at, type-told, known-signed, Goes, Next, next-13}
+use Rattle.rules.proofs.Changes.{counter-none, adds, admits}
 use Rattle.rules.proofs.Edits.{Apart, as-run, as-singles, slot, words-in-block, Harmless, enters}
 
 -- the rights that pass 9 and are not both write and execute
@@ -249,7 +250,6 @@ module _ (f : Form) (p i t q : ℕ) {h : Told} {s : Store} (r : Running h s) (ca
   map-harmless : Harmless h s p i m x
   unfolding unsignedTarget gives
   map-harmless =
-      let unsigned : ℕ → Bool = λ b. not (signedBlock (h .golden) (base s) (s .memory) b) in
       record {
         write-alone = λ b l g.
             let (w, lo, hi) = gains-write b g in
@@ -258,21 +258,23 @@ module _ (f : Form) (p i t q : ℕ) {h : Told} {s : Store} (r : Running h s) (ca
         execute-alone = λ b l g. let (e, lo, hi) = gains-execute b g in no-count writable b (can .apart .unwritten e) lo hi;
         signs = λ b l g.
             let (e, lo, hi) = gains-execute b g in
-            let none = and-false-right (allows q rights.execute) (someBlock t (targetBlocks f) unsigned) (can .signed) e in
-            not-false (signedBlock (h .golden) (base s) (s .memory) (base s + b)) (no-block-at t (targetBlocks f) unsigned none (base s + b) lo hi);
+            let none = and-false-right (allows q rights.execute) (someBlock t (targetBlocks f) (unknown (h .golden) s)) (can .signed) e in
+            known-signed r b l (no-block-at t (targetBlocks f) (unknown (h .golden) s) none (base s + b) lo hi);
         spares-holder = gain-none m x executable (holder p i) (λ k l.
             false-unless (gives executable (x k) (holder p i)) (λ g.
             let (lo, hi) = mapping-gives t q k f (can .target-aligned) l executable (holder p i) g in
             can .fits-target .not-holder (sym (mapping-grants t q k f .1) ∙ gives-within executable (x k) (holder p i) g .0) lo hi));
       }
 
-  mapped : (someOverrun added s m x ≡ false) × Running h (entered s p i m x)
+  mapped : (someOverrun added s m x ≡ false) × Goes (grantsWrite s (maps f p i t q)) h s (mapAccepted f s p i t q .store)
+  unfolding grantsWrite
   mapped =
       let sl = slot r (level f) p i m (words-in-block f i (can .aligned)) (can .table-inside) (can .index-inside) (can .typed) (can .unexecuted-holder) in
-      enters r (level f) p i m sl x map-harmless (can .written) (can .beside) (can .free) map-sound
+      let (change, fresh) = enters r (level f) p i m sl x map-harmless (can .written) (can .beside) (can .free) map-sound in
+      adds r (admits change) fresh
 
-pub map-next : (f : Form) (p i t q : ℕ) {h : Told} {s : Store} → Running h s → Next h (maps f p i t q) (mapOutcome f (h .golden) s p i t q)
+pub map-next : (f : Form) (p i t q : ℕ) {h : Told} {s : Store} → Running h s → Next h s (maps f p i t q) (mapOutcome f (h .golden) s p i t q)
 unfolding mapOutcome afterAccepted
 map-next f p i t q {h} {s} r =
-    next-13 (maps f p i t q) (entered s p i (mappingWords f) (mapping f t q)) (mapRefusals f (h .golden) s p i t q) r (omega arith) (omega arith) (omega arith)
+    next-13 (maps f p i t q) (mapAccepted f s p i t q) (mapRefusals f (h .golden) s p i t q) r (omega arith) (omega arith) (omega arith)
     (λ tests. mapped f p i t q r (mappable f (h .golden) s p i t q tests))

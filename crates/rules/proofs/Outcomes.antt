@@ -13,6 +13,7 @@ use Rattle.rules.specs.Map.{mapOutcome}
 use Rattle.rules.specs.Link.{linkOutcome}
 use Rattle.rules.specs.Unmap.{unmapOutcome}
 use Rattle.rules.specs.Switch.{switchOutcome}
+use Rattle.rules.specs.Forget.{forgetOutcome}
 use Rattle.rules.specs.Guest.{writes, guestOutcome, byteGiven}
 
 settle-byte : (k : ℕ) (old : Store) (new : Accepted) → new .byte ≡ 0 → 0 ≡ settle k old new .byte
@@ -51,3 +52,7 @@ switch-byte s p = settle-byte _ _ _ refl
 pub write-byte : (v : ℕ) (s : Store) (addr : ℕ) → 0 ≡ guestOutcome (writes v) s addr .byte
 unfolding guestOutcome byteGiven
 write-byte v s addr = settle-byte _ _ _ refl
+
+pub forget-byte : (s : Store) (p m : ℕ) → 0 ≡ forgetOutcome s p m .byte
+unfolding forgetOutcome
+forget-byte s p m = settle-byte _ _ _ refl

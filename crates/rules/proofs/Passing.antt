@@ -38,23 +38,23 @@ pub record Taken (h : Told) (s : Store) (call : Step) (after : Store) : Type 0 w
   pub leaves : obey (h .golden) s call .after ≡ after
   pub runs : Running (afterAccepted h call) (obey (h .golden) s call .after)
 
-took : {h : Told} {s : Store} → Running h s → (call : Step) (k : ℕ) (after : Store) → obey (h .golden) s call ≡ settle k s (leaving after) → obey (h .golden) s call .answer ≡ 0
-    → Taken h s call after
+took : {h : Told} {s : Store} → Running h s → (call : Step) (k : ℕ) (new : Accepted) → obey (h .golden) s call ≡ settle k s new → obey (h .golden) s call .answer ≡ 0
+    → Taken h s call (new .store)
 unfolding afterAnswer
-took {h} {s} r call k after is zero-is =
+took {h} {s} r call k new is zero-is =
     record {
       accepted = zero-is;
-      leaves = ap (λ (o : Outcome). o .after) is ∙ settle-accepted s (leaving after) k (sym (ap (λ (o : Outcome). o .answer) is) ∙ zero-is) .1;
+      leaves = ap (λ (o : Outcome). o .after) is ∙ settle-accepted s new k (sym (ap (λ (o : Outcome). o .answer) is) ∙ zero-is) .1;
       runs = rw zero-is at (step-next r call .runs);
     }
 
 -- a call passes every test but that of its last refusal, 13, which never arises
-pub taken : {h : Told} {s : Store} → Running h s → (call : Step) {before : List Refusal} (last : Bool) (after : Store)
-    → obey (h .golden) s call ≡ callOutcome (before ++ (13 if last ∷ [])) s after → Passed before → Taken h s call after
-taken {h} {s} r call {before} last after is passes =
+pub taken : {h : Told} {s : Store} → Running h s → (call : Step) {before : List Refusal} (last : Bool) (new : Accepted)
+    → obey (h .golden) s call ≡ callOutcome (before ++ (13 if last ∷ [])) s new → Passed before → Taken h s call (new .store)
+taken {h} {s} r call {before} last new is passes =
     let k = answerOf (before ++ (13 if last ∷ [])) in
-    let answer-is : obey (h .golden) s call .answer ≡ k = ap (λ (o : Outcome). o .answer) is ∙ settle-answer k s (leaving after) in
-    took r call k after is (answer-is ∙ accepted-unless 13 last passes (λ z. step-next r call .not-13 (answer-is ∙ z)))
+    let answer-is : obey (h .golden) s call .answer ≡ k = ap (λ (o : Outcome). o .answer) is ∙ settle-answer k s new in
+    took r call k new is (answer-is ∙ accepted-unless 13 last passes (λ z. step-next r call .not-13 (answer-is ∙ z)))
 
 pub one-block : (p : ℕ) (q : ℕ → Bool) → q p ≡ false → someBlock p 1 q ≡ false
 unfolding someBlock any
@@ -101,7 +101,7 @@ module _ {h : Told} {s : Store} (r : Running h s) where
 
   pub switch-taken : (p : ℕ) → Switchable h s p → Taken h s (switches p) (switchAfter s p)
   unfolding obey switchOutcome
-  switch-taken p table = took r (switches p) (answerOf (switchRefusals s p)) (switchAfter s p) refl (switch-accepted p .1 table)
+  switch-taken p table = took r (switches p) (answerOf (switchRefusals s p)) (leaving (switchAfter s p)) refl (switch-accepted p .1 table)
 
   -- the table in use leads to a block with the right that the access needs
   pub access-accepted : (a : Access) (addr : ℕ) {table : ℕ} {v : Level} {p q : ℕ} → h .table ≡ some table → walk (h .B) (blocks s) (s .memory) table addr ≡ ends v p q

@@ -32,7 +32,7 @@ module _ (golden : List ℕ) {B : ℕ} {s : Store} (r : Running (begun B golden)
   unfolding obey
   at-guest-steps P holds i a addr e =
       let m = moment golden refl r steps i (accesses a addr) e in
-      rw (m .told-is, m .store-is, m .after-is) (holds (m .told) (m .store) (m .runs) a addr)
+      rw (m .told-is, m .store-is, m .after-is) (holds (m .told) (m .store) (m .good .1) a addr)
 
   -- what holds of a step's answer in every running state
   answered : (P : Told → Store → ℕ → Type 0) (step : Step) (refusals : Store → List Refusal) → ((now : Store) → obey golden now step .answer ≡ answerOf (refusals now))
@@ -41,7 +41,7 @@ module _ (golden : List ℕ) {B : ℕ} {s : Store} (r : Running (begun B golden)
   answered P step refusals is holds i k e given =
       let m = moment golden refl r steps i step e in
       let answer-is : k ≡ answerOf (refusals (m .store)) = cc (m .answer-is, given, is (m .store)) in
-      rw (m .told-is, m .store-is, answer-is) (holds (m .told) (m .store) (m .runs))
+      rw (m .told-is, m .store-is, answer-is) (holds (m .told) (m .store) (m .good .1))
 
   upheld : Policies golden B s steps
   unfolding obey freeOutcome unmapOutcome
@@ -59,7 +59,7 @@ module _ (golden : List ℕ) {B : ℕ} {s : Store} (r : Running (begun B golden)
             let m = moment golden refl r steps i (accesses fetches addr) e in
             let zero-is : obey golden (m .store) (accesses fetches addr) .answer ≡ 0 = cc (m .answer-is, accepted) in
             let byte-is : byte ≡ obey golden (m .store) (accesses fetches addr) .byte = cc (m .byte-is, given) in
-            rw (m .told-is, m .store-is, byte-is) (guest-fetches-code (m .runs) addr zero-is);
+            rw (m .told-is, m .store-is, byte-is) (guest-fetches-code (m .good .1) addr zero-is);
         free-sound = λ v p. answered (λ h now k. (k ≢ 8) × (k ≢ 10)) (frees v p) (λ now. freeRefusals v now p) (λ now. settle-answer _ now (leaving (freeAfter v now p))) (λ h now r. free-sound r v p);
         unmap-sound = λ f p j.
             answered (λ h now k. (k ≢ 10) × (k ≡ 8 → forAnother f (entryAt (level f) (now .memory) (blockWords * (p - h .B) + j)) ≡ true)) (unmaps f p j) (λ now. unmapRefusals f now p j)

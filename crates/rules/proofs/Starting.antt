@@ -1,25 +1,33 @@
--- Begin and switch keep the invariant: begin leaves no table and no count, and switch checks that its block is a table.
+-- Begin, switch and forget keep the invariant: begin leaves no table, no count and no mark, switch checks that its block is a table, and
+-- forget clears marks.
+use mathlib.Core.Bool.{Bool, true, false, _&&_}
+use mathlib.Core.Logic.{inl, ⊎-elim}
 use mathlib.Core.Option.{Option·none-ne-some}
 use mathlib.Core.List.{List}
 use mathlib.Core.Path.{_≡_, refl, sym, _∙_}
-use Prim.Native.Nat.{ℕ, _+_, _*_, _%_, _<_}
+use Prim.Native.Nat.{ℕ, _+_, _-_, _*_, _%_, _<_, _≤_}
 use native.Mathlib.Omega.{arith}
 use lib.ListN.{length}
+use borrow.Author.Tests.{lt-ltb}
+use Rattle.words.specs.Bounded.{above}
 use Rattle.words.specs.Words.{putWord}
+use Rattle.words.proofs.Bounded.{and-false-right, window-or-outside}
 use Rattle.words.proofs.Words.{length-putWord, word-putWord-same, word-putWord-other}
 use Rattle.entries.specs.Entries.{fault, l1}
-use Rattle.rules.specs.Store.{blockWords, basePlace, activePlace, noTable, Store, blocks, base, recordWord, typeWord, Counter, executable, counterWord, retype}
+use Rattle.rules.specs.Store.{blockWords, basePlace, activePlace, noTable, outside as outsideOf, Store, blocks, base, recordWord, typeWord, Counter, writable, executable, counterWord, markWord, retype, recount}
 use Rattle.rules.specs.Refusals.{answerOf}
 use Rattle.rules.specs.Tables.{typeD, typeCode, tableBlocks, typedEntry}
 use Rattle.rules.specs.Outcomes.{leaving}
 use Rattle.rules.specs.Begin.{cleared, beginRefusals, beginAfter, beginOutcome}
 use Rattle.rules.specs.Switch.{switchRefusals, switchAfter, switchOutcome}
-use Rattle.rules.specs.Steps.{begins, switches, Told, begun, afterAccepted, Root}
+use Rattle.rules.specs.Forget.{strayBlocks, forgetRefusals, forgetAfter, forgetOutcome}
+use Rattle.rules.specs.Box.{grantsWrite}
+use Rattle.rules.specs.Steps.{begins, switches, forgets, Told, begun, afterAccepted, Root}
 use Rattle.rules.proofs.Refusals.{Passed, now, rest, passed, avoided}
 use Rattle.rules.proofs.Gains.{gives-fault, gain-none}
 use Rattle.rules.proofs.Consistent.{sound-fault, still}
-use Rattle.rules.proofs.Ledger.{recordWord-put-head, length-retype, length-recount, type-retype-in, type-recount, counter-recount}
-use Rattle.rules.proofs.State.{Fit, fits, fit-same, equal, within, types-told, Running, running, Next, next, settle-accepted}
+use Rattle.rules.proofs.Ledger.{recordWord-put-head, length-retype, length-recount, type-retype-in, type-recount, counter-recount, OnlyMarks, marks-clear-all, mark-all-cleared, mark-not-cleared}
+use Rattle.rules.proofs.State.{Fit, fits, fit-same, equal, within, types-told, MarkedAt, Running, running, Goes, grows-none, Next, next, settle-accepted}
 
 module _ (s : Store) (B : ℕ) (golden : List ℕ) where
   abbrev n : ℕ
@@ -28,11 +36,17 @@ module _ (s : Store) (B : ℕ) (golden : List ℕ) where
   abbrev untyped : List ℕ
   untyped = retype (s .ledger) 0 n typeD
 
+  abbrev uncounted : List ℕ
+  uncounted = recount untyped n (λ c b. 0)
+
+  only-marks : OnlyMarks uncounted (cleared s)
+  only-marks = marks-clear-all uncounted 0 n
+
   abbrev based : List ℕ
   based = putWord (cleared s) basePlace B
 
   length-cleared : length (cleared s) ≡ length (s .ledger)
-  length-cleared = length-recount untyped n (λ c b. 0) ∙ length-retype (s .ledger) 0 n typeD
+  length-cleared = only-marks .length-is ∙ length-recount untyped n (λ c b. 0) ∙ length-retype (s .ledger) 0 n typeD
 
   -- B and active are stored beside the records
   record-begun : (k b : ℕ) → recordWord (beginAfter s B .ledger) k b ≡ recordWord (cleared s) k b
@@ -41,13 +55,21 @@ module _ (s : Store) (B : ℕ) (golden : List ℕ) where
   module _ (fit : Fit B n s) where
     type-begun : (b : ℕ) → b < n → recordWord (beginAfter s B .ledger) typeWord b ≡ typeD
     type-begun b l =
-        record-begun typeWord b ∙ type-recount untyped n (λ c b. 0) b
+        record-begun typeWord b ∙ only-marks .type-is b ∙ type-recount untyped n (λ c b. 0) b
         ∙ type-retype-in (s .ledger) 0 n typeD n b (fit .ledger-length) (omega arith) (omega arith) (omega arith) (omega arith)
 
     counter-begun : (c : Counter) (b : ℕ) → b < n → recordWord (beginAfter s B .ledger) (counterWord c) b ≡ 0
     counter-begun c b l =
-        record-begun (counterWord c) b
+        record-begun (counterWord c) b ∙ only-marks .counter-is c b
         ∙ counter-recount untyped n n (λ c b. 0) (length-retype (s .ledger) 0 n typeD ∙ fit .ledger-length) (omega arith) c b l (omega arith)
+
+    mark-begun : (b : ℕ) → b < n → recordWord (beginAfter s B .ledger) markWord b ≡ 0
+    mark-begun b l =
+        record-begun markWord b
+        ∙ mark-all-cleared uncounted 0 n n (length-recount untyped n (λ c b. 0) ∙ length-retype (s .ledger) 0 n typeD ∙ fit .ledger-length) (omega arith) b (omega arith) (omega arith)
+
+    unmarked-begun : (b : ℕ) → b < n → MarkedAt (beginAfter s B) b → ⊥
+    unmarked-begun b l k = omega (arith, mark-begun b l)
 
   begin-runs : Passed (beginRefusals s B) → Running (begun B golden) (beginAfter s B)
   unfolding typedEntry
@@ -68,7 +90,16 @@ module _ (s : Store) (B : ℕ) (golden : List ℕ) where
           exclusive = λ b l w. counter-begun fit executable b l;
           signs = λ b l x. let z : ⊥ = omega (arith, counter-begun fit executable b l) in absurd z;
         };
+        believed = λ b l k. absurd (unmarked-begun fit b l k);
       })
+
+  begin-goes : (granted : ℕ → Bool) → Passed (beginRefusals s B) → Goes granted (begun B golden) s (beginAfter s B)
+  begin-goes granted t =
+      let fit = fits s B (now t) in
+      record {
+        runs = begin-runs t;
+        grows = record { writes = λ b l w. let z : ⊥ = omega (arith, counter-begun fit writable b l) in absurd z; marks = λ b l k. absurd (unmarked-begun fit b l k); same-blocks = refl };
+      }
 
   pub begin-accepted : beginOutcome s B .answer ≡ 0 → Running (begun B golden) (beginOutcome s B .after)
   unfolding beginOutcome
@@ -76,6 +107,13 @@ module _ (s : Store) (B : ℕ) (golden : List ℕ) where
       let rs = beginRefusals s B in
       let (zero-is, after-is, _) = settle-accepted s (leaving (beginAfter s B)) (answerOf rs) accepted in
       rw after-is (begin-runs (passed rs (omega arith) zero-is))
+
+  pub begin-unmarked : beginOutcome s B .answer ≡ 0 → (b : ℕ) → b < blocks (beginOutcome s B .after) → MarkedAt (beginOutcome s B .after) b → ⊥
+  unfolding beginOutcome
+  begin-unmarked accepted =
+      let rs = beginRefusals s B in
+      let (zero-is, after-is, _) = settle-accepted s (leaving (beginAfter s B)) (answerOf rs) accepted in
+      rw after-is (unmarked-begun (fits s B (now (passed rs (omega arith) zero-is))))
 
 module _ {h : Told} {s : Store} (r : Running h s) (p : ℕ) where
   pub switch-runs : Passed (switchRefusals s p) → Running (afterAccepted h (switches p)) (switchAfter s p)
@@ -96,18 +134,77 @@ module _ {h : Told} {s : Store} (r : Running h s) (p : ℕ) where
         types-are = λ b l. recordWord-put-head (s .ledger) activePlace p typeWord b (omega arith) ∙ r .types-are b l;
         root = λ q e. let same : p ≡ q = cc in rw same at table;
         consistent = still (r .consistent) (λ j l. refl) (λ b l x. refl) (λ c b l. recordWord-put-head (s .ledger) activePlace p (counterWord c) b (omega arith));
+        believed = λ b l k. r .believed b l (sym (recordWord-put-head (s .ledger) activePlace p markWord b (omega arith)) ∙ k);
       })
 
-  pub switch-next : Next h (switches p) (switchOutcome s p)
+  switch-goes : (granted : ℕ → Bool) → Passed (switchRefusals s p) → Goes granted (afterAccepted h (switches p)) s (switchAfter s p)
+  switch-goes granted t =
+      let same : (k b : ℕ) → recordWord (switchAfter s p .ledger) k b ≡ recordWord (s .ledger) k b = λ k b. recordWord-put-head (s .ledger) activePlace p k b (omega arith) in
+      record { runs = switch-runs t; grows = record { writes = λ b l w. inl (rw (same (counterWord writable) b) at w); marks = λ b l k. inl (sym (same markWord b) ∙ k); same-blocks = refl } }
+
+  pub switch-next : Next h s (switches p) (switchOutcome s p)
   unfolding switchOutcome
   switch-next =
       let rs = switchRefusals s p in
       next (switches p) (leaving (switchAfter s p)) (answerOf rs) r (avoided 13 rs (λ e. omega arith) (omega arith)) (avoided 24 rs (λ e. omega arith) (omega arith))
-      (λ e. switch-runs (passed rs (omega arith) e))
+      (λ e. switch-goes (grantsWrite s (switches p)) (passed rs (omega arith) e))
 
-pub begin-next : {h : Told} {s : Store} → Running h s → (B : ℕ) → Next h (begins B) (beginOutcome s B)
+-- Forget: the m blocks from p on
+module _ {h : Told} {s : Store} (r : Running h s) (p m : ℕ) where
+  cleared-marks : OnlyMarks (s .ledger) (forgetAfter s p m .ledger)
+  cleared-marks = marks-clear-all (s .ledger) (p - base s) m
+
+  -- no block is marked that was not
+  none-marked : strayBlocks s p m ≡ false → (b : ℕ) → b < blocks s → MarkedAt (forgetAfter s p m) b → MarkedAt s b
+  unfolding strayBlocks
+  none-marked t b l k = ⊎-elim inside outside (window-or-outside b (p - base s) m) where
+    inside : (p - base s ≤ b) × (b < p - base s + m) → MarkedAt s b
+    inside (lo, hi) =
+        let (low, high) = within (base s) (blocks s) p m (and-false-right (above m 0) (outsideOf (base s) (blocks s) p m) t (lt-ltb 0 m (omega arith))) in
+        let z : ⊥ = omega (arith, k, mark-all-cleared (s .ledger) (p - base s) m (blocks s) (r .fit .ledger-length) (omega arith) b lo hi) in
+        absurd z
+
+    outside : (p - base s ≤ b → p - base s + m ≤ b) → MarkedAt s b
+    outside o = sym (mark-not-cleared (s .ledger) (p - base s) m b o) ∙ k
+
+  pub forget-goes : (granted : ℕ → Bool) → Passed (forgetRefusals s p m) → Goes granted h s (forgetAfter s p m)
+  forget-goes granted t =
+      let o = cleared-marks in
+      let marks = none-marked (now (rest t)) in
+      record {
+        runs = running (record {
+          told-base = r .told-base;
+          fit = fit-same (forgetAfter s p m) (r .fit) refl (o .length-is);
+          base-is = o .head-is basePlace (omega arith);
+          active-is = o .head-is activePlace (omega arith) ∙ r .active-is;
+          types-are = λ b l. o .type-is b ∙ r .types-are b l;
+          root = r .root;
+          consistent = still (r .consistent) (λ j l. refl) (λ b l x. refl) (λ c b l. o .counter-is c b);
+          believed = λ b l k. r .believed b l (marks b l k);
+        });
+        grows = grows-none granted s (forgetAfter s p m) o marks refl;
+      }
+
+  -- a block that was forgotten is not marked
+  pub forgotten-unmarked : forgetOutcome s p m .answer ≡ 0 → (b : ℕ) → p ≤ base s + b → base s + b < p + m → MarkedAt (forgetOutcome s p m .after) b → ⊥
+  unfolding forgetOutcome strayBlocks
+  forgotten-unmarked accepted b lo hi k =
+      let rs = forgetRefusals s p m in
+      let (zero-is, after-is, _) = settle-accepted s (leaving (forgetAfter s p m)) (answerOf rs) accepted in
+      let t = now (rest (passed rs (omega arith) zero-is)) in
+      let (low, high) = within (base s) (blocks s) p m (and-false-right (above m 0) (outsideOf (base s) (blocks s) p m) t (lt-ltb 0 m (omega arith))) in
+      omega (arith, rw after-is at k, mark-all-cleared (s .ledger) (p - base s) m (blocks s) (r .fit .ledger-length) (omega arith) b (omega arith) (omega arith))
+
+  pub forget-next : Next h s (forgets p m) (forgetOutcome s p m)
+  unfolding forgetOutcome afterAccepted
+  forget-next =
+      let rs = forgetRefusals s p m in
+      next (forgets p m) (leaving (forgetAfter s p m)) (answerOf rs) r (avoided 13 rs (λ e. omega arith) (omega arith)) (avoided 24 rs (λ e. omega arith) (omega arith))
+      (λ e. forget-goes (grantsWrite s (forgets p m)) (passed rs (omega arith) e))
+
+pub begin-next : {h : Told} {s : Store} → Running h s → (B : ℕ) → Next h s (begins B) (beginOutcome s B)
 unfolding beginOutcome afterAccepted
 begin-next {h} {s} r B =
     let rs = beginRefusals s B in
     next (begins B) (leaving (beginAfter s B)) (answerOf rs) r (avoided 13 rs (λ e. omega arith) (omega arith)) (avoided 24 rs (λ e. omega arith) (omega arith))
-    (λ e. begin-runs s B (h .golden) (passed rs (omega arith) e))
+    (λ e. begin-goes s B (h .golden) (grantsWrite s (begins B)) (passed rs (omega arith) e))

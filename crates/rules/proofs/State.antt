@@ -1,7 +1,8 @@
--- The invariant of every list of steps, and what it says at a moment: the ledger has what the steps told, and tables and counters agree.
-use mathlib.Core.Bool.{Bool, true, false, _||_, or-true}
+-- The invariant of every list of steps, and what it says at a moment: the ledger has what the steps told,
+-- tables and counters agree, and what is marked is signed.
+use mathlib.Core.Bool.{Bool, true, false, not, _&&_, _||_, or-true}
 use mathlib.Core.List.{List}
-use mathlib.Core.Logic.{_≢_, ⊎-elim}
+use mathlib.Core.Logic.{_≢_, _⊎_, inl, inr, ⊎-elim}
 use mathlib.Core.Option.{Option, none, some}
 use mathlib.Core.Path.{_≡_, refl, sym, _∙_, ap, subst, subst₂}
 use Prim.Native.Nat.{ℕ, zero, suc, _+_, _-_, _*_, _/_, _%_, _<_, _≤_}
@@ -12,14 +13,16 @@ use borrow.Author.Tests.{le-ltb, ltb-false, eqb-true, not-false}
 use Rattle.words.specs.Bounded.{above, neqb}
 use Rattle.words.proofs.Bounded.{or-false-left, or-false-right, or-cases, any-none, any-hit, any-found}
 use Rattle.entries.specs.Entries.{Entry, Level}
-use Rattle.rules.specs.Store.{blockBytes, blockWords, leastBlocks, mostBlocks, baseAlignment, physicalBlocks, ledgerHeadBytes, ledgerRecordBytes, noTable, Store, blocks, base, active, recordWord, typeWord, Counter, writable, executable, linked, counterWord, someCounter, typeOf, outside, someBlock, misfit}
-use Rattle.rules.specs.Outcomes.{Outcome, Accepted, leaving, settle, callOutcome}
+use Rattle.rules.specs.Store.{blockBytes, blockWords, leastBlocks, mostBlocks, baseAlignment, physicalBlocks, ledgerHeadBytes, ledgerRecordBytes, noTable, Store, blocks, base, active, recordWord, typeWord, Counter, writable, executable, linked, counterWord, markWord, markValue, marked, someCounter, typeOf, outside, someBlock, misfit}
+use Rattle.rules.specs.Outcomes.{Outcome, Accepted, settle, callOutcome}
 use Rattle.rules.specs.Refusals.{Refusal, answerOf}
-use Rattle.rules.specs.Signature.{signedBlock}
+use Rattle.rules.specs.Signature.{signedBlock, unknown}
 use Rattle.rules.specs.Tables.{tableBlocks, typedEntry}
 use Rattle.rules.specs.General.{tableOutside, otherType}
 use Rattle.rules.specs.Steps.{Step, Told, afterAccepted, afterAnswer, afresh, Root}
 use Rattle.rules.specs.Demand3.{Safe}
+use Rattle.rules.specs.Box.{grantsWrite}
+use Rattle.rules.proofs.Ledger.{OnlyMarks}
 use Rattle.rules.proofs.Refusals.{Passed, Avoids, front, lastTest, passed, passed-front, avoided, last-avoided}
 use Rattle.rules.proofs.Consistent.{Consistent}
 
@@ -81,6 +84,10 @@ signedAt B h memory b = signedBlock (h .golden) B memory (B + b)
 abbrev pub recorded : Store → Counter → ℕ → ℕ
 recorded s c b = recordWord (s .ledger) (counterWord c) b
 
+-- block b is marked
+abbrev pub MarkedAt : Store → ℕ → Type 0
+MarkedAt s b = recordWord (s .ledger) markWord b ≡ markValue
+
 pub record Inv (B n : ℕ) (h : Told) (s : Store) : Type 0 where
   pub told-base : h .B ≡ B
   pub fit : Fit B n s
@@ -89,6 +96,7 @@ pub record Inv (B n : ℕ) (h : Told) (s : Store) : Type 0 where
   pub types-are : (b : ℕ) → b < n → recordWord (s .ledger) typeWord b ≡ typeAt B h b
   pub root : (p : ℕ) → h .table ≡ some p → Root B n (h .types) p
   pub consistent : Consistent B n (typeAt B h) (entryOf B h (s .memory)) (signedAt B h (s .memory)) (recorded s)
+  pub believed : (b : ℕ) → b < n → MarkedAt s b → signedAt B h (s .memory) b ≡ true
 
 abbrev pub Running : Told → Store → Type 0
 Running h s = Inv (base s) (blocks s) h s
@@ -100,7 +108,7 @@ module _ {B n : ℕ} {h : Told} {s : Store} (i : Inv B n h s) where
   pub running : Running h s
   running = subst₂ (λ b m. Inv b m h s) (sym (i .base-is)) (sym blocks-are) i
 
--- lists 7 to 9: the invariant says them of a moment
+-- lists 7 to 9 and 14: the invariant says them of a moment
 pub safe : {h : Told} {s : Store} → Running h s → Safe h s
 unfolding afresh
 safe {h} {s} r = told-safe (subst (λ b. Inv b (blocks s) h s) (sym (r .told-base)) r) where
@@ -111,6 +119,7 @@ safe {h} {s} r = told-safe (subst (λ b. Inv b (blocks s) h s) (sym (r .told-bas
         exclusive = λ b l w x. omega (arith, k .exclusive b l (rw (k .counts-are writable b l) w), k .counts-are executable b l);
         signs = λ b l x. k .signs b l (rw (k .counts-are executable b l) x);
         honest = λ c b l. k .counts-are c b l;
+        believed = i .believed;
       }
 
 -- What the tests of a call tell
@@ -173,26 +182,54 @@ module _ {h : Told} {s : Store} (r : Running h s) where
       let (lo, hi) = within (base s) (blocks s) p (tableBlocks v) o in
       sym (type-told (p + k) (omega arith) (omega arith)) ∙ equal (typeOf s (p + k)) t (no-block p (tableBlocks v) (λ b. neqb (typeOf s b) t) e k l)
 
+  -- 12 does not apply to a block: it is signed, since a mark is believed
+  pub known-signed : (b : ℕ) → b < blocks s → unknown (h .golden) s (base s + b) ≡ false → signedAt (base s) h (s .memory) b ≡ true
+  unfolding unknown
+  known-signed b l e = go (marked s (base s + b)) refl e where
+    at : base s + b - base s ≡ b
+    at = omega arith
+
+    go : (t : Bool) → marked s (base s + b) ≡ t → (not t && not (signedAt (base s) h (s .memory) b)) ≡ false → signedAt (base s) h (s .memory) b ≡ true
+    go true is e = r .believed b l (rw at at (eqb-true (recordWord (s .ledger) markWord (base s + b - base s)) markValue is))
+    go false is e = not-false (signedAt (base s) h (s .memory) b) e
+
 -- One step
 
+-- from one store to another a block becomes writable only where write is granted, and marked only where it can be executed
+pub record Grows (granted : ℕ → Bool) (s after : Store) : Type 0 where
+  pub writes : (b : ℕ) → b < blocks s → 0 < recorded after writable b → (0 < recorded s writable b) ⊎ (granted (base s + b) ≡ true)
+  pub marks : (b : ℕ) → b < blocks s → MarkedAt after b → MarkedAt s b ⊎ (0 < recorded after executable b)
+  pub same-blocks : blocks after ≡ blocks s
+
+-- a ledger with the same counters and no other mark
+pub grows-none : (granted : ℕ → Bool) (s after : Store) → OnlyMarks (s .ledger) (after .ledger) → ((b : ℕ) → b < blocks s → MarkedAt after b → MarkedAt s b) → blocks after ≡ blocks s
+    → Grows granted s after
+grows-none granted s after only marks same = record { writes = λ b l w. inl (rw (only .counter-is writable b) at w); marks = λ b l k. inl (marks b l k); same-blocks = same }
+
+-- the state after a call that tells h′
+pub record Goes (granted : ℕ → Bool) (h′ : Told) (s after : Store) : Type 0 where
+  pub runs : Running h′ after
+  pub grows : Grows granted s after
+
 -- a step from a running state: neither 13 nor 24, and it runs on
-pub record Next (h : Told) (step : Step) (o : Outcome) : Type 0 where
+pub record Next (h : Told) (s : Store) (step : Step) (o : Outcome) : Type 0 where
   pub not-13 : o .answer ≢ 13
   pub not-24 : o .answer ≢ 24
   pub runs : Running (afterAnswer (o .answer) h step) (o .after)
+  pub grows : ((o .answer ≡ 0) × Grows (grantsWrite s step) s (o .after)) ⊎ (o .after ≡ s)
 
 -- an accepted call leaves and tells what it says, a refused one nothing
-pub next : {h : Told} {s : Store} (step : Step) (new : Accepted) (k : ℕ) → Running h s → k ≢ 13 → k ≢ 24 → (k ≡ 0 → Running (afterAccepted h step) (new .store))
-    → Next h step (settle k s new)
+pub next : {h : Told} {s : Store} (step : Step) (new : Accepted) (k : ℕ) → Running h s → k ≢ 13 → k ≢ 24 → (k ≡ 0 → Goes (grantsWrite s step) (afterAccepted h step) s (new .store))
+    → Next h s step (settle k s new)
 unfolding afterAnswer settle
-next step new zero r n13 n24 runs = record { not-13 = n13; not-24 = n24; runs = runs refl }
-next step new (suc k) r n13 n24 runs = record { not-13 = n13; not-24 = n24; runs = r }
+next step new zero r n13 n24 goes = record { not-13 = n13; not-24 = n24; runs = goes refl .runs; grows = inl (refl, goes refl .grows) }
+next step new (suc k) r n13 n24 goes = record { not-13 = n13; not-24 = n24; runs = r; grows = inr refl }
 
 -- the same for a call whose last refusal is 13, which does not arise where the others do not
-pub next-13 : {h : Told} {s : Store} (step : Step) (after : Store) (rs : List Refusal) → Running h s → Avoids 0 rs → Avoids 13 (front rs) → Avoids 24 rs
-    → (Passed (front rs) → (lastTest rs ≡ false) × Running (afterAccepted h step) after) → Next h step (callOutcome rs s after)
+pub next-13 : {h : Told} {s : Store} (step : Step) (after : Accepted) (rs : List Refusal) → Running h s → Avoids 0 rs → Avoids 13 (front rs) → Avoids 24 rs
+    → (Passed (front rs) → (lastTest rs ≡ false) × Goes (grantsWrite s step) (afterAccepted h step) s (after .store)) → Next h s step (callOutcome rs s after)
 next-13 step after rs r n0 n13 n24 new =
-    next step (leaving after) (answerOf rs) r (last-avoided 13 rs (λ e. omega arith) n13 (λ t. new t .0)) (avoided 24 rs (λ e. omega arith) n24)
+    next step after (answerOf rs) r (last-avoided 13 rs (λ e. omega arith) n13 (λ t. new t .0)) (avoided 24 rs (λ e. omega arith) n24)
     (λ e. new (passed-front rs (passed rs n0 e)) .1)
 
 -- an accepted call leaves the new store and gives its byte

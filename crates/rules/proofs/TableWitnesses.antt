@@ -18,6 +18,7 @@ use Rattle.entries.specs.Rights.{write, allows}
 use Rattle.rules.specs.Refusals.{answerOf}
 use Rattle.rules.specs.Store.{ledgerHeadBytes, ledgerRecordBytes, counterLimit, basePlace, blocks, base, recordWord, putRecordWord, retype, typeWord, Counter, typeOf, counter, counterWord, writable, executable, linked, someCounter, outside, someBlock}
 use Rattle.rules.specs.Tables.{typeD, tableEntries, tableEntry, typeCode, grants, gives, gain, astray}
+use Rattle.rules.specs.Signature.{unknown}
 use Rattle.rules.specs.General.{endValue, endsBelow, overruns, someOverrun}
 use Rattle.rules.specs.Create.{someCount, unfitLink, unfitWrite, misplaced, clash, clashes, unsigned as unsignedBy, createRefusals}
 use Rattle.rules.specs.Free.{inUse, freeRefusals}
@@ -159,7 +160,7 @@ no-clash w x moreW moreX (inl e) = rw (e, and-false (above moreW 0 || above more
 no-clash w x moreW moreX (inr e) = rw e (and-false ((above moreW 0 || above moreX 0) && above (w + moreW) 0))
 
 create-12 : answerOf (createRefusals l2 [] (smallStore 0x502E ledger) 0) ≡ 12
-unfolding word recordWord l2Entry isPageForm isLargeForm rightsOf mayRead mayWrite mayExecute num gives grants allows rights covers coverFirst placeFirst coverBlocks placeBlocks
+unfolding word recordWord l2Entry isPageForm isLargeForm rightsOf mayRead mayWrite mayExecute num gives grants allows rights covers coverFirst placeFirst coverBlocks placeBlocks unknown
 create-12 =
     let w : ℕ = 0x502E in
     let e = first-entry w (omega arith) .1 in

@@ -13,10 +13,10 @@ use Rattle.rules.specs.Tables.{typeD, typeCode, tableBlocks, tableEntrie
 use Rattle.rules.specs.General.{Change, added, removed, recounted, typeAfter, retyped}
 use Rattle.rules.specs.Steps.{Told, typed, Root}
 use Rattle.rules.proofs.Consistent.{Suits, Replaces, windowBefore, windowAfter}
-use Rattle.rules.proofs.Ledger.{length-retype, head-retype, counter-retype, type-retype-in, type-retype-out, typed-in, typed-out}
-use Rattle.rules.proofs.State.{typeAt, entryOf, Running, within}
+use Rattle.rules.proofs.Ledger.{length-retype, head-retype, counter-retype, type-retype-in, type-retype-out, typed-in, typed-out, mark-retype}
+use Rattle.rules.proofs.State.{MarkedAt, typeAt, entryOf, Running, within}
 use Rattle.rules.proofs.Tables.{word-block, entryOf-table, entryOf-data}
-use Rattle.rules.proofs.Changes.{Leaves, length-recounted, head-recounted, type-recounted, counter-recounted}
+use Rattle.rules.proofs.Changes.{Leaves, length-recounted, head-recounted, type-recounted, counter-recounted, mark-recounted}
 
 -- the type of a table's blocks before create (its entries are added) and free (they are removed)
 abbrev pub typeBefore : Change → Level → ℕ
@@ -69,6 +69,9 @@ module _ (d : Change) (v : Level) (p : ℕ) {h : Told} {s : Store} (r : Running 
         counters-are = λ c b l small. counter-retype led b₀ (tableBlocks v) t c b ∙ counter-recounted d s (tableEntries v) e (r .fit .ledger-length) c b l small;
         root = root;
       }
+
+  pub typing-marks : (b : ℕ) → MarkedAt (retyped d v s p) b → MarkedAt s b
+  typing-marks b k = sym (mark-retype led b₀ (tableBlocks v) t b ∙ mark-recounted d s (tableEntries v) e b) ∙ k
 
   -- word i of the blocks, when they are data and when they are a table
   module _ (k : Told) (i : ℕ) where

@@ -14,8 +14,10 @@ use Rattle.rules.specs.Tables.{Form, sections, pages, larges, level, map
 use Rattle.rules.specs.General.{misaligned, removed, endValue, someOverrun}
 use Rattle.rules.specs.Unmap.{unmapRefusals, unmapAfter, unmapOutcome}
 use Rattle.rules.specs.Steps.{unmaps, Told, afterAccepted}
+use Rattle.rules.specs.Outcomes.{leaving}
+use Rattle.rules.specs.Box.{grantsWrite}
 use Rattle.rules.proofs.Refusals.{Passed, front, now, rest}
-use Rattle.rules.proofs.State.{Running, Next, next-13}
+use Rattle.rules.proofs.State.{Running, Goes, Next, next-13}
 use Rattle.rules.proofs.Edits.{Apart, as-run, as-singles, slot, words-in-block, edits}
 use Rattle.rules.proofs.Changes.{removes}
 use Rattle.rules.proofs.Mapping.{word-aligned}
@@ -38,8 +40,8 @@ module _ (f : Form) (p i : ℕ) {h : Told} {s : Store} (r : Running h s) where
   entry : ℕ → Entry
   entry k = tableEntry (level f) s p (i + k)
 
-  unmapped : Passed (front (unmapRefusals f s p i)) → (someOverrun removed s (mappingWords f) entry ≡ false) × Running h (unmapAfter f s p i)
-  unfolding entry endValue
+  unmapped : Passed (front (unmapRefusals f s p i)) → (someOverrun removed s (mappingWords f) entry ≡ false) × Goes (grantsWrite s (unmaps f p i)) h s (unmapAfter f s p i)
+  unfolding entry endValue grantsWrite
   unmapped t1 =
       let t2 = rest t1 in
       let t3 = rest (rest t2) in
@@ -51,6 +53,6 @@ module _ (f : Form) (p i : ℕ) {h : Told} {s : Store} (r : Running h s) where
       let sl = slot r v p i m (words-in-block f i (now t3)) (now t2) (now t4) (now t5) (now t7) in
       removes r (edits r v p i m sl removed entry (singly (λ k l. a-fault)) (λ k l. refl) (taken-apart f s p i (now t3) (now (rest t7))) (omega (arith, sl .unexecuted)))
 
-  pub unmap-next : Next h (unmaps f p i) (unmapOutcome f s p i)
+  pub unmap-next : Next h s (unmaps f p i) (unmapOutcome f s p i)
   unfolding unmapOutcome afterAccepted entry
-  unmap-next = next-13 (unmaps f p i) (unmapAfter f s p i) (unmapRefusals f s p i) r (omega arith) (omega arith) (omega arith) unmapped
+  unmap-next = next-13 (unmaps f p i) (leaving (unmapAfter f s p i)) (unmapRefusals f s p i) r (omega arith) (omega arith) (omega arith) unmapped

@@ -1,4 +1,4 @@
--- Lists 7 to 12 hold of what every run leaves and hands out: from an accepted begin on, the run is one of the lists of the theorem.
+-- Lists 7 to 12 and 14 hold of what every run leaves and hands out: from an accepted begin on, the run is one of the lists of the theorem.
 use mathlib.Core.List.{List, [], _∷_, _++_}
 use mathlib.Core.Option.{some, Option·none-ne-some}
 use mathlib.Core.Path.{_≡_}
@@ -6,7 +6,7 @@ use Prim.Native.Nat.{ℕ, zero, suc}
 use lib.ListN.{drop, getElem?}
 use Rattle.rules.specs.Store.{Store}
 use Rattle.rules.specs.Begin.{beginOutcome}
-use Rattle.rules.specs.Steps.{Step, begins, obey, run}
+use Rattle.rules.specs.Steps.{Step, begins, obey, run, runBy}
 use Rattle.rules.specs.Demand3.{storeAt}
 use Rattle.rules.specs.Upheld.{Upheld, Upholds}
 use Rattle.rules.proofs.Demand3.{demand3, at-the-end}
@@ -23,7 +23,7 @@ module _ (golden : List ℕ) where
   from-begin : (s : Store) (steps : List Step) (i B : ℕ) → getElem? steps i ≡ some (begins B) → getElem? (run golden s steps .answers) i ≡ some 0
       → (let r = run golden s steps in
       Upheld golden B (storeAt golden s steps (suc i)) (drop (suc i) steps) (r .reached) (drop (suc i) (r .answers)) (drop (suc i) (r .bytes)))
-  unfolding run obey
+  unfolding runBy obey
   from-begin s [] zero B e a = absurd (Option·none-ne-some (begins B) e)
   from-begin s [] (suc i) B e a = absurd (Option·none-ne-some (begins B) e)
   from-begin s (step ∷ steps) zero B e a =
@@ -32,7 +32,7 @@ module _ (golden : List ℕ) where
       rw is (upheld s B steps accepted)
   from-begin s (step ∷ steps) (suc i) B e a = from-begin (obey golden s step .after) steps i B e a
 
-  -- the named theorem: lists 7 to 12 of what every run leaves and hands out, over whatever was lent
+  -- the named theorem: lists 7 to 12 and 14 of what every run leaves and hands out, over whatever was lent
   pub run-upholds-demand3 : (s : Store) (steps : List Step) → (let r = run golden s steps in Upholds golden s steps (r .reached) (r .answers) (r .bytes))
   run-upholds-demand3 s steps start before reached i B e a =
       let all = from-begin start (before ++ steps) i B e in

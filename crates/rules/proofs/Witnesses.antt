@@ -18,6 +18,7 @@ use Rattle.rules.specs.Outcomes.{settle}
 use Rattle.rules.specs.Tables.{typeCode, sections, pages, takes, grants, gives, gain, astray}
 use Rattle.rules.specs.General.{endValue, endsBelow, overruns, someOverrun}
 use Rattle.rules.specs.Begin.{beginOutcome}
+use Rattle.rules.specs.Signature.{unknown}
 use Rattle.rules.specs.Map.{mapOutcome, unfitTarget, clashingTarget, unsignedTarget}
 use Rattle.rules.specs.Link.{linkOutcome}
 use Rattle.rules.specs.Unmap.{unmapOutcome}
@@ -78,7 +79,7 @@ unfolding answers obey mapOutcome settle answerOf outside someBlock any recordWo
 numbers-9-to-11 = let (_, e) = first-entry 0 (omega arith) in rw (fit 0 oneL2 refl, length-memory 0, e) refl
 
 number-12 : answers [] (smallStore 0 oneL2) (maps pages 0 0 4 5 ∷ []) ≡ (12 ∷ [])
-unfolding answers obey mapOutcome settle answerOf outside someBlock any recordWord putRecordWord word putWord misfitImage l2Entry isFault unlawfulRights allows unfitTarget clashingTarget unsignedTarget
+unfolding answers obey mapOutcome settle answerOf outside someBlock any recordWord putRecordWord word putWord misfitImage l2Entry isFault unlawfulRights allows unfitTarget clashingTarget unsignedTarget unknown
 number-12 = let (_, e) = first-entry 0 (omega arith) in rw (fit 0 oneL2 refl, length-memory 0, e, unsigned (memory 0) 0 4) refl
 
 -- a link to a block outside, or to data; the removal of page 100

@@ -1,15 +1,15 @@
 -- Create L1 and create L2: blocks become a table (RULES: create, refusal).
-use mathlib.Core.Bool.{Bool, not, _&&_, _||_}
+use mathlib.Core.Bool.{Bool, _&&_, _||_}
 use mathlib.Core.List.{List, [], _∷_, _++_}
 use Prim.Native.Nat.{ℕ, _+_}
 use Rattle.words.specs.Bounded.{above, neqb, among, any}
 use Rattle.entries.specs.Entries.{Entry, Level, l2, isUnaccepted, isLink, coverFirst, coverBlocks}
 use Rattle.rules.specs.Refusals.{Refusal, _if_}
 use Rattle.rules.specs.Store.{Store, blocks, base, writable, executable, someCounter, typeOf, counter, someBlock, someRegionBlock, misfit}
-use Rattle.rules.specs.Outcomes.{Outcome, callOutcome}
-use Rattle.rules.specs.Signature.{imageRefusals, signedBlock}
-use Rattle.rules.specs.Tables.{typeD, typeCode, tableBlocks, tableEntries, tableEntry, grants, gain, astray}
-use Rattle.rules.specs.General.{tableOutside, misaligned, otherType, someOverrun, retyped, added}
+use Rattle.rules.specs.Outcomes.{Outcome, Accepted, callOutcome}
+use Rattle.rules.specs.Signature.{imageRefusals, unknown}
+use Rattle.rules.specs.Tables.{typeD, typeCode, tableBlocks, tableEntries, tableEntry, grants, gain, executed, astray}
+use Rattle.rules.specs.General.{tableOutside, misaligned, otherType, someOverrun, retyped, admitting, added}
 
 -- create 6: a counter of one of the table's blocks is above 0
 unfoldable pub someCount : Level → Store → ℕ → Bool
@@ -35,9 +35,9 @@ clash w x moreW moreX = (above moreW 0 || above moreX 0) && above (w + moreW) 0 
 abbrev pub clashes : Store → ℕ → (ℕ → Entry) → ℕ → Bool
 clashes s m e b = clash (counter writable s b) (counter executable s b) (gain m e writable b) (gain m e executable b)
 
--- create 12: one of the m entries e gives execute to block b, which is not signed
+-- create 12: one of the m entries e gives execute to block b, which is neither marked nor signed
 abbrev pub unsigned : List ℕ → Store → ℕ → (ℕ → Entry) → ℕ → Bool
-unsigned golden s m e b = above (gain m e executable b) 0 && not (signedBlock golden (base s) (s .memory) b)
+unsigned golden s m e b = executed m e b && unknown golden s b
 
 -- create list, create 8: each test goes over the whole table before the next; 8 if an entry is not accepted
 abbrev pub createRefusals : Level → List ℕ → Store → ℕ → List Refusal
@@ -55,10 +55,10 @@ createRefusals v golden s p =
     ∷ 13 if someOverrun added s (tableEntries v) (tableEntry v s p)
     ∷ []
 
--- create leaves: the blocks have the table's type, and its entries are added to the counters
-abbrev pub createAfter : Level → Store → ℕ → Store
-createAfter = retyped added
+-- create leaves, calls 8: the blocks have the table's type, its entries are added to the counters, and what they execute is marked
+abbrev pub createAccepted : Level → Store → ℕ → Accepted
+createAccepted v s p = admitting s (tableEntries v) (tableEntry v s p) (retyped added v s p)
 
--- create list, create leaves: what create answers and leaves
+-- create list, create leaves, calls 8: what create answers, leaves and gives
 unfoldable pub createOutcome : Level → List ℕ → Store → ℕ → Outcome
-createOutcome v golden s p = callOutcome (createRefusals v golden s p) s (createAfter v s p)
+createOutcome v golden s p = callOutcome (createRefusals v golden s p) s (createAccepted v s p)

@@ -7,18 +7,19 @@ use mathlib.Core.Path.{_≡_}
 use Prim.Native.Nat.{ℕ, suc, _+_, _≤_, _<_}
 use lib.ListN.{take, getD, getElem?}
 use Rattle.entries.specs.Entries.{Level}
-use Rattle.rules.specs.Store.{Store, blocks, Counter, writable, executable, recordWord, counterWord}
+use Rattle.rules.specs.Store.{Store, blocks, Counter, writable, executable, recordWord, counterWord, markWord, markValue}
 use Rattle.rules.specs.Signature.{contents, signedBlock}
+use Rattle.rules.specs.Outcomes.{Outcome}
 use Rattle.rules.specs.Tables.{typeD}
 use Rattle.rules.specs.Begin.{beginOutcome}
 use Rattle.rules.specs.Guest.{ends, walk, byteIndex, Access, fetches}
-use Rattle.rules.specs.Steps.{Step, accesses, run, Told, begun, history, afresh}
+use Rattle.rules.specs.Steps.{Step, accesses, obey, runBy, Told, begun, history, afresh}
 
 -- lists 6: w, x or l of block b, b counted from the region's first, read afresh
 abbrev pub counted : Told → Store → Counter → ℕ → ℕ
 counted h s c b = afresh h (blocks s) (s .memory) c (h .B + b)
 
--- lists 7, lists 8, lists 9: what holds of the region's blocks at a moment
+-- lists 7, lists 8, lists 9, lists 14: what holds of the region's blocks at a moment
 pub record Safe (h : Told) (s : Store) : Type 0 where
   -- lists 7: none is both writable and executable
   pub exclusive : (b : ℕ) → b < blocks s → 0 < counted h s writable b → 0 < counted h s executable b → ⊥
@@ -26,6 +27,8 @@ pub record Safe (h : Told) (s : Store) : Type 0 where
   pub signs : (b : ℕ) → b < blocks s → 0 < counted h s executable b → signedBlock (h .golden) (h .B) (s .memory) (h .B + b) ≡ true
   -- lists 9: the ledger's counters are the counts read afresh
   pub honest : (c : Counter) (b : ℕ) → b < blocks s → recordWord (s .ledger) (counterWord c) b ≡ counted h s c b
+  -- lists 14: each marked one is signed by its present bytes
+  pub believed : (b : ℕ) → b < blocks s → recordWord (s .ledger) markWord b ≡ markValue → signedBlock (h .golden) (h .B) (s .memory) (h .B + b) ≡ true
 
 -- lists 10: each block of the tables told has the same bytes afterwards
 abbrev pub KeepsTables : Told → Store → Store → Type 0
@@ -43,27 +46,41 @@ pub record Fetched (h : Told) (s : Store) (addr byte : ℕ) : Type 0 where
   pub taken : byte ≡ getD (s .memory) (byteIndex (h .B) addr (ends level block rights)) 0
   pub signs : signedBlock (h .golden) (h .B) (s .memory) block ≡ true
 
--- lists 3: the store that the first i steps reach
+-- Lists of steps from the store s that a begin with B left; by says what comes of a step
+
+module _ (by : Store → Step → Outcome) (golden : List ℕ) (B : ℕ) (s : Store) (steps : List Step) where
+  -- lists 3: the store that the first i steps reach
+  abbrev pub storeBy : ℕ → Store
+  storeBy i = runBy by s (take i steps) .reached
+
+  -- lists 4, lists 5: what the first i steps told, with their answers
+  abbrev pub toldBy : ℕ → Told
+  toldBy i = history (begun B golden) (take i steps) (runBy by s steps .answers)
+
+  -- lists 7, lists 8, lists 9, lists 10, lists 11, lists 12, lists 14: the claim
+  pub record Claim : Type 0 where
+    -- lists 7, lists 8, lists 9, lists 14: at the start and after each step
+    pub safe : (i : ℕ) → Safe (toldBy i) (storeBy i)
+    -- lists 10: no guest step changes a table
+    pub guarded : (i : ℕ) (a : Access) (addr : ℕ) → getElem? steps i ≡ some (accesses a addr) → KeepsTables (toldBy i) (storeBy i) (storeBy (suc i))
+    -- lists 11: a byte that is fetched is of a signed block
+    pub fetched : (i addr byte : ℕ) → getElem? steps i ≡ some (accesses fetches addr)
+        → getElem? (runBy by s steps .answers) i ≡ some 0 → getElem? (runBy by s steps .bytes) i ≡ some byte
+        → Fetched (toldBy i) (storeBy i) addr byte
+    -- lists 12: no answer is 13 or 24
+    pub never : (i k : ℕ) → getElem? (runBy by s steps .answers) i ≡ some k → (k ≢ 13) × (k ≢ 24)
+
+-- lists 3: the store that the first i steps reach, where they are calls that are lent one image
 abbrev pub storeAt : List ℕ → Store → List Step → ℕ → Store
-storeAt golden s steps i = run golden s (take i steps) .reached
+storeAt golden s steps i = runBy (obey golden) s (take i steps) .reached
 
--- lists 4, lists 5: what the first i steps told, with their answers, since a begin with B
+-- lists 4, lists 5: what such steps told
 abbrev pub toldAt : List ℕ → ℕ → Store → List Step → ℕ → Told
-toldAt golden B s steps i = history (begun B golden) (take i steps) (run golden s steps .answers)
+toldAt golden B s steps i = toldBy (obey golden) golden B s steps i
 
--- lists 7, lists 8, lists 9, lists 10, lists 11, lists 12: the claim about the steps that run from store s, which a begin with B left
-pub record Demand3 (golden : List ℕ) (B : ℕ) (s : Store) (steps : List Step) : Type 0 where
-  -- lists 7, lists 8, lists 9: at the start and after each step
-  pub safe : (i : ℕ) → Safe (toldAt golden B s steps i) (storeAt golden s steps i)
-  -- lists 10: no guest step changes a table
-  pub guarded : (i : ℕ) (a : Access) (addr : ℕ) → getElem? steps i ≡ some (accesses a addr)
-      → KeepsTables (toldAt golden B s steps i) (storeAt golden s steps i) (storeAt golden s steps (suc i))
-  -- lists 11: a byte that is fetched is of a signed block
-  pub fetched : (i addr byte : ℕ) → getElem? steps i ≡ some (accesses fetches addr)
-      → getElem? (run golden s steps .answers) i ≡ some 0 → getElem? (run golden s steps .bytes) i ≡ some byte
-      → Fetched (toldAt golden B s steps i) (storeAt golden s steps i) addr byte
-  -- lists 12: no answer is 13 or 24
-  pub never : (i k : ℕ) → getElem? (run golden s steps .answers) i ≡ some k → (k ≢ 13) × (k ≢ 24)
+-- lists 7, lists 8, lists 9, lists 10, lists 11, lists 12, lists 14: the claim about such steps
+abbrev pub Demand3 : List ℕ → ℕ → Store → List Step → Type 0
+Demand3 golden B s steps = Claim (obey golden) golden B s steps
 
 -- lists 2, lists 3, lists 13: the claim about every list from every accepted begin on, over any memory and ledger, under any image
 abbrev pub Demand3-holds : Type 0

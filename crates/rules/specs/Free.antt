@@ -7,7 +7,7 @@ use Rattle.words.specs.Bounded.{above, any}
 use Rattle.entries.specs.Entries.{Level, l1, l2, isUnaccepted}
 use Rattle.rules.specs.Refusals.{Refusal, _if_}
 use Rattle.rules.specs.Store.{Store, blocks, base, active, linked, counter, misfit}
-use Rattle.rules.specs.Outcomes.{Outcome, callOutcome}
+use Rattle.rules.specs.Outcomes.{Outcome, leaving, callOutcome}
 use Rattle.rules.specs.Tables.{typeCode, tableBlocks, tableEntries, tableEntry, astray}
 use Rattle.rules.specs.General.{tableOutside, misaligned, otherType, someOverrun, retyped, removed}
 
@@ -35,4 +35,4 @@ freeAfter = retyped removed
 
 -- free list, free leaves: what free answers and leaves
 unfoldable pub freeOutcome : Level → Store → ℕ → Outcome
-freeOutcome v s p = callOutcome (freeRefusals v s p) s (freeAfter v s p)
+freeOutcome v s p = callOutcome (freeRefusals v s p) s (leaving (freeAfter v s p))

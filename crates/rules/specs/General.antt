@@ -3,11 +3,12 @@ use mathlib.Core.Bool.{Bool, false, not, _&&_, _||_}
 use mathlib.Core.List.{List}
 use Prim.Native.Nat.{ℕ, _+_, _-_, _/_, _%_}
 use lib.Dec.{leb}
-use Rattle.words.specs.Bounded.{above, neqb, any}
+use Rattle.words.specs.Bounded.{above, neqb, any, count}
 use Rattle.entries.specs.Entries.{Entry, Level, isFault}
 use Rattle.entries.specs.Written.{wordOf, cacheable}
-use Rattle.rules.specs.Store.{blockWords, counterLimit, Store, blocks, base, executable, recordWord, counterWord, someCounter, typeOf, counter, retype, recount, fill, outside, someBlock, someRegionBlock}
-use Rattle.rules.specs.Tables.{typeD, typeCode, tableBlocks, tableEntries, wordIndex, tableEntry, gain}
+use Rattle.rules.specs.Store.{blockWords, counterLimit, Store, blocks, base, executable, recordWord, counterWord, someCounter, typeOf, counter, marked, retype, recount, clearMark, markBlocks, fill, outside, someBlock, someRegionBlock}
+use Rattle.rules.specs.Outcomes.{Accepted}
+use Rattle.rules.specs.Tables.{typeD, typeCode, tableBlocks, tableEntries, wordIndex, tableEntry, gain, executed}
 
 -- refusal 2, link 10, guest 21: one of the blocks of the table at p lies outside the region; their numbers do not wrap
 abbrev pub tableOutside : Level → Store → ℕ → Bool
@@ -73,13 +74,28 @@ abbrev pub retyped : Change → Level → Store → ℕ → Store
 retyped d v s p =
     record { memory = s .memory; ledger = retype (recounted d s (tableEntries v) (tableEntry v s p)) (p - base s) (tableBlocks v) (typeAfter d v) }
 
--- What map and link have in common
+-- What create and map have in common
+
+-- calls 8: how many blocks the m entries e execute that are not marked
+unfoldable pub hashedBlocks : Store → ℕ → (ℕ → Entry) → ℕ
+hashedBlocks s m e = count (blocks s) (λ b. executed m e (base s + b) && not (marked s (base s + b)))
+
+-- create leaves, map leaves, calls 8: this store with the blocks marked that the m entries e execute, which were added to store s; and how many were hashed
+abbrev pub admitting : Store → ℕ → (ℕ → Entry) → Store → Accepted
+admitting s m e after =
+    record { store = record { memory = after .memory; ledger = markBlocks (after .ledger) (blocks s) (λ b. executed m e (base s + b)) }; byte = 0; hashed = hashedBlocks s m e }
+
+-- What map, link and unmap have in common
+
+-- map leaves, link leaves, unmap leaves, ledger 10: the m words w stored from entry i on, the entries e added to the counters or taken, and the
+-- holder's mark cleared
+abbrev pub edited : Change → Store → ℕ → ℕ → ℕ → (ℕ → Entry) → (ℕ → ℕ) → Store
+edited d s p i m e w = record { memory = fill (s .memory) (wordIndex s p i) m w; ledger = clearMark (recounted d s m e) (holder p i - base s) }
 
 -- map 8, link 8: one of the m entries from i on is no fault
 abbrev pub occupied : Level → Store → ℕ → ℕ → ℕ → Bool
 occupied v s p i m = any m (λ k. not (isFault (tableEntry v s p (i + k))))
 
--- map leaves, link leaves: the words of the m entries e stored from entry i on (entries 15, entries 16), and the entries added to the counters
+-- map leaves, link leaves: the words of the m entries e stored from entry i on (entries 15, entries 16), and the entries added
 abbrev pub entered : Store → ℕ → ℕ → ℕ → (ℕ → Entry) → Store
-entered s p i m e =
-    record { memory = fill (s .memory) (wordIndex s p i) m (λ k. wordOf cacheable (e k)); ledger = recounted added s m e }
+entered s p i m e = edited added s p i m e (λ k. wordOf cacheable (e k))

@@ -5,9 +5,9 @@ use Prim.Native.Nat.{ℕ, _+_, _-_, _*_, _/_, _%_, _^_}
 use lib.ListN.{getD, set}
 use Rattle.words.specs.Words.{bits}
 use Rattle.entries.specs.Entries.{Entry, fault, unaccepted, link, section, page, large, Level, l1, l2, blockTables, entryAt, isFault, isUnaccepted, rights, coverFirst, coverBlocks}
-use Rattle.rules.specs.Refusals.{Refusal, _if_, answerOf}
-use Rattle.rules.specs.Store.{blockBytes, blockWords, Store, blocks, base, active, misfit}
-use Rattle.rules.specs.Outcomes.{Outcome, Accepted, settle}
+use Rattle.rules.specs.Refusals.{Refusal, _if_}
+use Rattle.rules.specs.Store.{blockBytes, blockWords, Store, blocks, base, active, clearMark, misfit}
+use Rattle.rules.specs.Outcomes.{Outcome, Accepted, callOutcome}
 use Rattle.rules.specs.Tables.{tableBlocks, l2Words, astray}
 use Rattle.entries.specs.Rights.{Right, read, write, execute, allows}
 use Rattle.rules.specs.General.{misaligned, tableOutside}
@@ -86,19 +86,24 @@ written reads memory j = memory
 written fetches memory j = memory
 written (writes v) memory j = set memory j (v % 2 ^ 8)
 
+-- guest leaves, ledger 10: a write clears the mark of the block in which place j lies
+unfoldable pub unmarked : Access → List ℕ → ℕ → List ℕ
+unmarked reads ledger j = ledger
+unmarked fetches ledger j = ledger
+unmarked (writes v) ledger j = clearMark ledger (j / blockBytes)
+
 -- guest byte: a read or a fetch gives the byte at place j (0 stands for none in a write)
 unfoldable pub byteGiven : Access → List ℕ → ℕ → ℕ
 byteGiven reads memory j = getD memory j 0
 byteGiven fetches memory j = getD memory j 0
 byteGiven (writes v) memory j = 0
 
--- guest leaves, guest byte: what an accepted access leaves and gives; the ledger as it was
+-- guest leaves, guest byte: what an accepted access leaves and gives
 abbrev pub guestAccepted : Access → Store → ℕ → Accepted
 guestAccepted a s addr =
     let j = byteIndex (base s) addr (activeWalk s addr) in
-    record { store = record { memory = written a (s .memory) j; ledger = s .ledger }; byte = byteGiven a (s .memory) j }
+    record { store = record { memory = written a (s .memory) j; ledger = unmarked a (s .ledger) j }; byte = byteGiven a (s .memory) j; hashed = 0 }
 
 -- guest list, guest leaves, guest byte: what an access answers, leaves and gives
 unfoldable pub guestOutcome : Access → Store → ℕ → Outcome
-guestOutcome a s addr =
-    settle (answerOf (guestRefusals a s addr)) s (guestAccepted a s addr)
+guestOutcome a s addr = callOutcome (guestRefusals a s addr) s (guestAccepted a s addr)

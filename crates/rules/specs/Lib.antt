@@ -12,7 +12,9 @@ pub mod Link
 pub mod Unmap
 pub mod Switch
 pub mod Guest
+pub mod Forget
 pub mod Steps
 pub mod Demand3
 pub mod Upheld
+pub mod Box
 pub mod Policies

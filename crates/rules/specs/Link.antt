@@ -6,7 +6,7 @@ use Rattle.words.specs.Bounded.{neqb}
 use Rattle.entries.specs.Entries.{Entry, link, l1, l2, blockTables}
 use Rattle.rules.specs.Refusals.{Refusal, _if_}
 use Rattle.rules.specs.Store.{Store, base, typeOf, misfit}
-use Rattle.rules.specs.Outcomes.{Outcome, callOutcome}
+use Rattle.rules.specs.Outcomes.{Outcome, leaving, callOutcome}
 use Rattle.rules.specs.Tables.{typeCode, tableBlocks}
 use Rattle.rules.specs.General.{tableOutside, misaligned, beyondTable, otherType, executableHolder, someOverrun, occupied, entered, added}
 
@@ -32,4 +32,4 @@ linkRefusals s p i t j =
 
 -- link list, link leaves: what link answers and leaves
 unfoldable pub linkOutcome : Store → ℕ → ℕ → ℕ → ℕ → Outcome
-linkOutcome s p i t j = callOutcome (linkRefusals s p i t j) s (entered s p i 1 (λ k. linkTo t j))
+linkOutcome s p i t j = callOutcome (linkRefusals s p i t j) s (leaving (entered s p i 1 (λ k. linkTo t j)))

@@ -17,8 +17,9 @@ use Rattle.rules.specs.Link.{linkOutcome}
 use Rattle.rules.specs.Unmap.{unmapOutcome}
 use Rattle.rules.specs.Switch.{switchOutcome}
 use Rattle.rules.specs.Guest.{Access, guestOutcome}
+use Rattle.rules.specs.Forget.{forgetOutcome}
 
--- lists 1: one of the sixteen calls, with any arguments; the accesses are the guest steps
+-- lists 1: one of the seventeen calls, with any arguments; the accesses are the guest steps
 pub data Step : Type 0 where
   begins : ℕ → Step
   creates : Level → ℕ → Step
@@ -28,6 +29,7 @@ pub data Step : Type 0 where
   unmaps : Form → ℕ → ℕ → Step
   switches : ℕ → Step
   accesses : Access → ℕ → Step
+  forgets : ℕ → ℕ → Step
 
 -- lists 1, lists 3: what comes of a step that is lent this image and this store
 unfoldable pub obey : List ℕ → Store → Step → Outcome
@@ -39,6 +41,7 @@ obey golden s (links p i t j) = linkOutcome s p i t j
 obey golden s (unmaps f p i) = unmapOutcome f s p i
 obey golden s (switches p) = switchOutcome s p
 obey golden s (accesses a addr) = guestOutcome a s addr
+obey golden s (forgets p m) = forgetOutcome s p m
 
 -- lists 3: what comes of a list: the store reached, every answer, and every byte given (0 where a step gives none)
 pub record Run : Type 0 where
@@ -46,13 +49,17 @@ pub record Run : Type 0 where
   pub answers : List ℕ
   pub bytes : List ℕ
 
--- lists 3: every step is lent the store that the one before it left, and all are lent one image
-unfoldable pub run : List ℕ → Store → List Step → Run
-run golden s [] = record { reached = s; answers = []; bytes = [] }
-run golden s (step ∷ steps) =
-    let o = obey golden s step in
-    let rest = run golden (o .after) steps in
+-- lists 3: every step is lent the store that the one before it left; by says what comes of a step
+unfoldable pub runBy : (Store → Step → Outcome) → Store → List Step → Run
+runBy by s [] = record { reached = s; answers = []; bytes = [] }
+runBy by s (step ∷ steps) =
+    let o = by s step in
+    let rest = runBy by (o .after) steps in
     record { reached = rest .reached; answers = o .answer ∷ rest .answers; bytes = o .byte ∷ rest .bytes }
+
+-- lists 3: the steps are calls, and all are lent one image
+abbrev pub run : List ℕ → Store → List Step → Run
+run golden s steps = runBy (obey golden) s steps
 
 -- lists 4, lists 5, lists 11: what is told: B, the tables as types of physical blocks, the table of the last accepted switch, and the image
 pub record Told : Type 0 where
@@ -86,6 +93,7 @@ afterAccepted h (links p i t j) = h
 afterAccepted h (unmaps f p i) = h
 afterAccepted h (switches p) = record { B = h .B; types = h .types; table = some p; golden = h .golden }
 afterAccepted h (accesses a addr) = h
+afterAccepted h (forgets p m) = h
 
 -- lists 5: an accepted step tells something, a refused one nothing
 unfoldable pub afterAnswer : ℕ → Told → Step → Told

@@ -1,7 +1,8 @@
 -- The memory and the ledger: their sizes, their words, and how they are stored (RULES: memory, ledger).
-use mathlib.Core.Bool.{Bool, _||_}
+use mathlib.Core.Bool.{Bool, cond, _||_}
 use mathlib.Core.List.{List}
 use Prim.Native.Nat.{ℕ, zero, suc, _+_, _-_, _*_, _/_, _%_, _^_}
+use lib.Dec.{eqb}
 use lib.ListN.{length}
 use Rattle.words.specs.Bounded.{above, neqb, any}
 use Rattle.words.specs.Words.{word, putWord}
@@ -33,7 +34,7 @@ ledgerHeadBytes = 8
 
 -- ledger 1: the words of a record
 abbrev pub recordWords : ℕ
-recordWords = 4
+recordWords = 5
 
 -- ledger 1: the bytes of a record
 abbrev pub ledgerRecordBytes : ℕ
@@ -100,6 +101,14 @@ counterWord writable = 1
 counterWord executable = 2
 counterWord linked = 3
 
+-- ledger 3: which word of a record the mark is
+abbrev pub markWord : ℕ
+markWord = 4
+
+-- ledger 9: the mark of a block that is marked
+abbrev pub markValue : ℕ
+markValue = 1
+
 -- create 6, refusal 13: one of the three counters has q
 unfoldable pub someCounter : (Counter → Bool) → Bool
 someCounter q = q writable || q executable || q linked
@@ -111,6 +120,10 @@ typeOf s p = recordWord (s .ledger) typeWord (p - base s)
 -- ledger 3: w, x or l of physical block p; outside the region this says nothing, as for the type
 abbrev pub counter : Counter → Store → ℕ → ℕ
 counter c s p = recordWord (s .ledger) (counterWord c) (p - base s)
+
+-- ledger 9: physical block p is marked; outside the region this says nothing, as for the type
+abbrev pub marked : Store → ℕ → Bool
+marked s p = eqb (recordWord (s .ledger) markWord (p - base s)) markValue
 
 -- ledger 3: the ledger in which the m blocks from b on have type t, b counted from the region's first
 unfoldable pub retype : List ℕ → ℕ → ℕ → ℕ → List ℕ
@@ -126,6 +139,20 @@ putCounters ledger b f =
 unfoldable pub recount : List ℕ → ℕ → (Counter → ℕ → ℕ) → List ℕ
 recount ledger zero f = ledger
 recount ledger (suc n) f = putCounters (recount ledger n f) n (λ c. f c n)
+
+-- ledger 10: the ledger in which the mark of block b is 0, b counted from the region's first
+abbrev pub clearMark : List ℕ → ℕ → List ℕ
+clearMark ledger b = putRecordWord ledger markWord b 0
+
+-- begin leaves, forget leaves: the ledger in which the marks of the m blocks from b on are 0
+unfoldable pub clearMarks : List ℕ → ℕ → ℕ → List ℕ
+clearMarks ledger b zero = ledger
+clearMarks ledger b (suc m) = clearMark (clearMarks ledger b m) (b + m)
+
+-- create leaves, map leaves: the ledger in which those of the first n blocks that have q are marked
+unfoldable pub markBlocks : List ℕ → ℕ → (ℕ → Bool) → List ℕ
+markBlocks ledger zero q = ledger
+markBlocks ledger (suc n) q = cond (q n) (putRecordWord (markBlocks ledger n q) markWord n markValue) (markBlocks ledger n q)
 
 -- memory 4: the memory with w 0, w 1, .. stored as its m words from word j on
 unfoldable pub fill : List ℕ → ℕ → ℕ → (ℕ → ℕ) → List ℕ

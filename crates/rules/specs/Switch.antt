@@ -5,7 +5,7 @@ use Rattle.words.specs.Words.{putWord}
 use Rattle.entries.specs.Entries.{l1}
 use Rattle.rules.specs.Refusals.{Refusal, _if_}
 use Rattle.rules.specs.Store.{Store, activePlace, base, misfit}
-use Rattle.rules.specs.Outcomes.{Outcome, callOutcome}
+use Rattle.rules.specs.Outcomes.{Outcome, leaving, callOutcome}
 use Rattle.rules.specs.Tables.{typeCode, tableBlocks}
 use Rattle.rules.specs.General.{tableOutside, misaligned, otherType}
 
@@ -24,4 +24,4 @@ switchAfter s p = record { memory = s .memory; ledger = putWord (s .ledger) acti
 
 -- switch list, switch leaves: what switch answers and leaves
 unfoldable pub switchOutcome : Store → ℕ → Outcome
-switchOutcome s p = callOutcome (switchRefusals s p) s (switchAfter s p)
+switchOutcome s p = callOutcome (switchRefusals s p) s (leaving (switchAfter s p))

@@ -92,6 +92,10 @@ gives c e p = grants c e && covers e p
 unfoldable pub gain : ℕ → (ℕ → Entry) → Counter → ℕ → ℕ
 gain m e c p = count m (λ i. gives c (e i) p)
 
+-- create 12, create leaves, map leaves, calls 8: one of the m entries e gives execute to physical block p
+abbrev pub executed : ℕ → (ℕ → Entry) → ℕ → Bool
+executed m e p = above (gain m e executable p) 0
+
 -- entries 17, create 10, free 10, unmap 10, guest 24: the entry has a place, and a part of it lies outside the region
 unfoldable pub astray : ℕ → ℕ → Entry → Bool
 astray B n e = above (placeBlocks e) 0 && outside B n (placeFirst e) (placeBlocks e)

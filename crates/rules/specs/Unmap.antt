@@ -6,10 +6,10 @@ use Rattle.words.specs.Bounded.{any}
 use Rattle.entries.specs.Entries.{fault}
 use Rattle.entries.specs.Written.{wordOf, cacheable}
 use Rattle.rules.specs.Refusals.{Refusal, _if_}
-use Rattle.rules.specs.Store.{Store, blocks, base, fill, misfit}
-use Rattle.rules.specs.Outcomes.{Outcome, callOutcome}
-use Rattle.rules.specs.Tables.{typeCode, tableBlocks, Form, level, mappingWords, takes, wordIndex, tableEntry, astray}
-use Rattle.rules.specs.General.{tableOutside, misaligned, beyondTable, otherType, executableHolder, someOverrun, recounted, removed}
+use Rattle.rules.specs.Store.{Store, blocks, base, misfit}
+use Rattle.rules.specs.Outcomes.{Outcome, leaving, callOutcome}
+use Rattle.rules.specs.Tables.{typeCode, tableBlocks, Form, level, mappingWords, takes, tableEntry, astray}
+use Rattle.rules.specs.General.{tableOutside, misaligned, beyondTable, otherType, executableHolder, someOverrun, edited, removed}
 
 -- unmap list, unmap 3, unmap 8, unmap 10: the second 3 is of the index; 8 and 10 are about the entries of the mapping's words
 abbrev pub unmapRefusals : Form → Store → ℕ → ℕ → List Refusal
@@ -26,11 +26,10 @@ unmapRefusals f s p i =
     ∷ 13 if someOverrun removed s (mappingWords f) (λ k. tableEntry (level f) s p (i + k))
     ∷ []
 
--- unmap leaves: the words are 0, and the entries that they were are taken from the counters
+-- unmap leaves: the words are 0, the entries that they were are taken from the counters, and the holder's mark is cleared
 abbrev pub unmapAfter : Form → Store → ℕ → ℕ → Store
-unmapAfter f s p i =
-    record { memory = fill (s .memory) (wordIndex s p i) (mappingWords f) (λ k. wordOf cacheable fault); ledger = recounted removed s (mappingWords f) (λ k. tableEntry (level f) s p (i + k)) }
+unmapAfter f s p i = edited removed s p i (mappingWords f) (λ k. tableEntry (level f) s p (i + k)) (λ k. wordOf cacheable fault)
 
 -- unmap list, unmap leaves: what unmap answers and leaves
 unfoldable pub unmapOutcome : Form → Store → ℕ → ℕ → Outcome
-unmapOutcome f s p i = callOutcome (unmapRefusals f s p i) s (unmapAfter f s p i)
+unmapOutcome f s p i = callOutcome (unmapRefusals f s p i) s (leaving (unmapAfter f s p i))

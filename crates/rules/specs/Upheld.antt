@@ -14,7 +14,7 @@ use Rattle.rules.specs.Demand3.{Safe, Fetched, storeAt, Demand3}
 pub record Upheld (golden : List ℕ) (B : ℕ) (s : Store) (steps : List Step) (left : Store) (answers bytes : List ℕ) : Type 0 where
   -- lists 13: the claim, at every moment of the list
   pub throughout : Demand3 golden B s steps
-  -- lists 7, lists 8, lists 9: of the memory and ledger that are left, by the answers handed out
+  -- lists 7, lists 8, lists 9, lists 14: of the memory and ledger that are left, by the answers handed out
   pub safe : Safe (history (begun B golden) steps answers) left
   -- lists 11: of the bytes handed out
   pub fetched : (i addr byte : ℕ) → getElem? steps i ≡ some (accesses fetches addr) → getElem? answers i ≡ some 0 → getElem? bytes i ≡ some byte
