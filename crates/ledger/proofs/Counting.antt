@@ -17,13 +17,13 @@ use Rattle.words.proofs.Bounded.{both-ways, below-or-above, differ, or-left, or
 use Rattle.words.proofs.Words.{Bytes, bytes-putWord}
 use Rattle.entries.specs.Entries.{Entry, isFault, isLink, rights, coverFirst, coverBlocks, covers}
 use Rattle.entries.specs.Rights.{write, execute, allows}
-use Rattle.rules.specs.Store.{ledgerHeadBytes, ledgerRecordBytes, basePlace, counterLimit, Store, blocks, base, recordWord, putRecordWord, typeWord, Counter, writable, executable, linked, counterWord, someCounter, counter, someBlock, misfit, lent}
+use Rattle.rules.specs.Store.{ledgerHeadBytes, ledgerRecordBytes, basePlace, counterLimit, Store, blocks, base, recordWord, putRecordWord, typeWord, Counter, writable, executable, linked, counterWord, markWord, someCounter, counter, someBlock, misfit, lent}
 use Rattle.rules.specs.Tables.{grants, gives, gain, astray}
 use Rattle.rules.specs.General.{Change, added, removed, endValue, endsBelow, overruns, someOverrun, recounted}
 use Rattle.rules.proofs.Gains.{fault-is, grants-place, gain-none}
-use Rattle.rules.proofs.Ledger.{InRecord, counter-in-record, counter-not-type, length-putRecordWord, head-putRecordWord, recordWord-put-same, recordWord-put-other}
+use Rattle.rules.proofs.Ledger.{InRecord, counter-in-record, counter-not-type, counter-not-mark, length-putRecordWord, head-putRecordWord, recordWord-put-same, recordWord-put-other}
 use Rattle.rules.proofs.State.{fits, within, inside, some-block-hit, some-block-found, no-block-at, no-counter, some-counter-found, some-counter-hit}
-use Rattle.rules.proofs.Changes.{end, length-recounted, head-recounted, type-recounted, counter-recounted}
+use Rattle.rules.proofs.Changes.{end, length-recounted, head-recounted, type-recounted, mark-recounted, counter-recounted}
 use Rattle.rules.proofs.Walk.{cover-within}
 use Rattle.ledger.specs.Counters.{Spreads, beyond, counterBeyond, blocksBeyond, leastBefore, mostBefore, changed, changedCounter}
 use Rattle.ledger.specs.Needs.{Changeable, recordOf, GrantsInside, GrantsRecorded, Countable}
@@ -267,6 +267,7 @@ module _ (d : Change) (s : Store) (length-is : length (s .ledger) ≡ ledgerHead
     lengths : length led ≡ length (s .ledger)
     heads : (a : ℕ) → a + 4 ≤ ledgerHeadBytes → word led a ≡ word (s .ledger) a
     types : (b : ℕ) → recordWord led typeWord b ≡ recordWord (s .ledger) typeWord b
+    marks : (b : ℕ) → recordWord led markWord b ≡ recordWord (s .ledger) markWord b
     all-bytes : Bytes led
 
   -- and not in this one
@@ -278,6 +279,7 @@ module _ (d : Change) (s : Store) (length-is : length (s .ledger) ≡ ledgerHead
     lengths = length-changedCounter d led c e p m ∙ r .lengths;
     heads = λ a h. head-changedCounter d led c e p m a h ∙ r .heads a h;
     types = λ b. other-changedCounter d led c e p m typeWord b (omega arith) (λ q. counter-not-type c (sym q)) ∙ r .types b;
+    marks = λ b. other-changedCounter d led c e p m markWord b (omega arith) (λ q. counter-not-mark c (sym q)) ∙ r .marks b;
     all-bytes = bytes-changedCounter d led c e p m (r .all-bytes);
   }
 
@@ -303,7 +305,7 @@ module _ (d : Change) (s : Store) (length-is : length (s .ledger) ≡ ledgerHead
     passes led c o h b = other-changedCounter d led o e p m (counterWord c) b (counter-in-record c) h
 
     reached0 : Reached (s .ledger)
-    reached0 = record { lengths = refl; heads = λ a h. refl; types = λ b. refl; all-bytes = bytes }
+    reached0 = record { lengths = refl; heads = λ a h. refl; types = λ b. refl; marks = λ b. refl; all-bytes = bytes }
 
     reached1 : Reached led1
     reached1 = reach writable reached0
@@ -347,6 +349,7 @@ module _ (d : Change) (s : Store) (length-is : length (s .ledger) ≡ ledgerHead
           (λ a h. r .heads a h ∙ sym (head-recounted d s n x a h))
           (λ b l. r .types b ∙ sym (type-recounted d s n x b))
           (λ c b l. ends c b l ∙ sym (counter-recounted d s n x length-is c b l (end-bound c b l)))
+          (λ b l. r .marks b ∙ sym (mark-recounted d s n x b))
 
 -- What the tests of a call say
 
@@ -434,6 +437,7 @@ module _ (d : Change) (s : Store) (length-is : length (s .ledger) ≡ ledgerHead
       (λ c b l.
       counter-recounted d reached 1 one length-reached c b l (rw (ends-reached c b l) (bound c b l)) ∙ ends-reached c b l
       ∙ sym (counter-recounted d s (i + 1) e length-is c b l (bound c b l)))
+      (λ b l. mark-recounted d reached 1 one b ∙ mark-recounted d s i e b ∙ sym (mark-recounted d s (i + 1) e b))
 
 -- recounting with entries that give nothing leaves the ledger
 pub recounted-idle : (d : Change) (s : Store) (n : ℕ) (e : ℕ → Entry) → length (s .ledger) ≡ ledgerHeadBytes + ledgerRecordBytes * blocks s → Bytes (s .ledger) → ((c : Counter) (p : ℕ) → gain n e c p ≡ 0)
@@ -444,6 +448,7 @@ recounted-idle d s n e length-is bytes none =
     (λ a h. head-recounted d s n e a h)
     (λ b l. type-recounted d s n e b)
     (λ c b l. counter-recounted d s n e length-is c b l (rw (same c b) (recordWord-bound (s .ledger) (counterWord c) b bytes)) ∙ same c b)
+    (λ b l. mark-recounted d s n e b)
 
 -- recounting with no entry does
 pub recounted-none : (d : Change) (s : Store) (e : ℕ → Entry) → length (s .ledger) ≡ ledgerHeadBytes + ledgerRecordBytes * blocks s → Bytes (s .ledger) → recounted d s 0 e ≡ s .ledger

@@ -6,7 +6,7 @@ use mathlib.Core.Path.{_≡_, refl, sym, _∙_}
 use Prim.Native.Nat.{ℕ, zero, suc}
 use Rattle.rules.specs.Refusals.{Refusal, _if_, answerOf}
 use Rattle.rules.specs.Store.{Store, lent}
-use Rattle.rules.specs.Outcomes.{leaving, settle, callOutcome}
+use Rattle.rules.specs.Outcomes.{Accepted, settle, callOutcome}
 use Rattle.rules.proofs.Refusals.{decides as decided, Passed, done, step}
 pub use Rattle.rules.proofs.Refusals.{Decides, here, past, none}
 
@@ -31,17 +31,29 @@ judged [] e = rw e none
 judged (k if true ∷ xs) e = rw e (here refl)
 judged (k if false ∷ xs) e = past refl (judged xs e)
 
--- What a call answers and leaves, when its judge gave a
+-- What a call answers, leaves and gives, when its judge gave a
 
-module _ (refusals : List Refusal) (old after : Store) {a : ℕ} (judged : a ≡ answerOf refusals) where
-  pub leaves-refused : a ≢ 0 → (a ≡ callOutcome refusals old after .answer) × (old ≡ callOutcome refusals old after .after)
+module _ (refusals : List Refusal) (old : Store) (new : Accepted) {a : ℕ} (judged : a ≡ answerOf refusals) where
+  pub leaves-refused : a ≢ 0 → (a ≡ callOutcome refusals old new .answer) × (old ≡ callOutcome refusals old new .after)
   unfolding settle
   leaves-refused n = go (answerOf refusals) judged where
-    go : (k : ℕ) → a ≡ k → (a ≡ settle k old (leaving after) .answer) × (old ≡ settle k old (leaving after) .after)
+    go : (k : ℕ) → a ≡ k → (a ≡ settle k old new .answer) × (old ≡ settle k old new .after)
     go zero e = absurd (n e)
     go (suc k) e = (e, refl)
 
-  pub leaves-accepted : {memory ledger : List ℕ} → a ≡ 0 → memory ≡ after .memory → ledger ≡ after .ledger
-      → (0 ≡ callOutcome refusals old after .answer) × (lent memory ledger ≡ callOutcome refusals old after .after)
+  pub leaves-accepted : {memory ledger : List ℕ} → a ≡ 0 → memory ≡ new .store .memory → ledger ≡ new .store .ledger
+      → (0 ≡ callOutcome refusals old new .answer) × (lent memory ledger ≡ callOutcome refusals old new .after)
   unfolding settle
   leaves-accepted z m l = let e : answerOf refusals ≡ 0 = sym judged ∙ z in rw e (refl, λ i. lent (m i) (l i))
+
+  -- the number of blocks hashed
+  pub hashed-refused : a ≢ 0 → 0 ≡ callOutcome refusals old new .hashed
+  unfolding settle
+  hashed-refused n = go (answerOf refusals) judged where
+    go : (k : ℕ) → a ≡ k → 0 ≡ settle k old new .hashed
+    go zero e = absurd (n e)
+    go (suc k) e = refl
+
+  pub hashed-accepted : {k : ℕ} → a ≡ 0 → k ≡ new .hashed → k ≡ callOutcome refusals old new .hashed
+  unfolding settle
+  hashed-accepted z h = let e : answerOf refusals ≡ 0 = sym judged ∙ z in rw e h

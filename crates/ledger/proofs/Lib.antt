@@ -2,4 +2,5 @@ pub mod Blocks
 pub mod Counting
 pub mod Fits
 pub mod Judge
+pub mod Marking
 pub mod Records

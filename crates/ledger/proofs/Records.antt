@@ -9,7 +9,7 @@ use lib.Seq.{ext-getD}
 use Rattle.words.specs.Words.{bits, word}
 use Rattle.words.proofs.Bounded.{below-or-above}
 use Rattle.words.proofs.Words.{Bytes, word-bound, bytes-putWord, getD-putWord-same, putWord-self}
-use Rattle.rules.specs.Store.{ledgerHeadBytes, ledgerRecordBytes, recordWord, putRecordWord, recount, typeWord, Counter, writable, executable, linked, counterWord}
+use Rattle.rules.specs.Store.{ledgerHeadBytes, ledgerRecordBytes, recordWord, putRecordWord, recount, typeWord, Counter, writable, executable, linked, counterWord, markWord}
 
 -- the words of a ledger of bytes, and its bytes when it is recounted
 pub recordWord-bound : (led : List ℕ) (k b : ℕ) → Bytes led → recordWord led k b < 2 ^ 32
@@ -31,17 +31,19 @@ words-ext xs ys n bx by h = ext-getD 0 xs ys n (λ i l. at-byte i (i / 4) (i % 4
   at-byte i j k l small e =
       rw e (byte-of-word xs (4 * j) k bx small (omega arith) ∙ ap (λ (w : ℕ). bits w (8 * k) 8) (h j (omega arith)) ∙ sym (byte-of-word ys (4 * j) k by small (omega arith)))
 
--- the words of a ledger of n records: those of the head, the types and the counters
+-- the words of a ledger of n records: those of the head, the types, the counters and the marks
 module _ (xs ys : List ℕ) (n : ℕ) (lx : length xs ≡ ledgerHeadBytes + ledgerRecordBytes * n) (ly : length ys ≡ ledgerHeadBytes + ledgerRecordBytes * n) (bx : Bytes xs) (by : Bytes ys)
     (heads : (a : ℕ) → a + 4 ≤ ledgerHeadBytes → word xs a ≡ word ys a)
     (types : (b : ℕ) → b < n → recordWord xs typeWord b ≡ recordWord ys typeWord b)
-    (counters : (c : Counter) (b : ℕ) → b < n → recordWord xs (counterWord c) b ≡ recordWord ys (counterWord c) b) where
-  in-record : (k b : ℕ) → k < 4 → b < n → recordWord xs k b ≡ recordWord ys k b
+    (counters : (c : Counter) (b : ℕ) → b < n → recordWord xs (counterWord c) b ≡ recordWord ys (counterWord c) b)
+    (marks : (b : ℕ) → b < n → recordWord xs markWord b ≡ recordWord ys markWord b) where
+  in-record : (k b : ℕ) → k < 5 → b < n → recordWord xs k b ≡ recordWord ys k b
   in-record zero b h l = types b l
   in-record (suc zero) b h l = counters writable b l
   in-record (suc (suc zero)) b h l = counters executable b l
   in-record (suc (suc (suc zero))) b h l = counters linked b l
-  in-record (suc (suc (suc (suc k)))) b h l = let z : ⊥ = omega arith in absurd z
+  in-record (suc (suc (suc (suc zero)))) b h l = marks b l
+  in-record (suc (suc (suc (suc (suc k))))) b h l = let z : ⊥ = omega arith in absurd z
 
   pub ledger-ext : xs ≡ ys
   unfolding recordWord

@@ -30,7 +30,7 @@ const BASE_PLACE: usize = 0;
 const ACTIVE_PLACE: usize = 4;
 
 // The words of a record, and which they are.
-const RECORD_WORDS: usize = 4;
+const RECORD_WORDS: usize = 5;
 
 pub const TYPE: usize = 0;
 
@@ -39,6 +39,11 @@ pub const WRITABLE: usize = 1;
 pub const EXECUTABLE: usize = 2;
 
 pub const LINKED: usize = 3;
+
+pub const MARK: usize = 4;
+
+// The mark of a block that is marked.
+pub const MARKED: u32 = 1;
 
 // The types.
 pub const TYPE_D: u32 = 0;

@@ -1,15 +1,17 @@
 // Scans of adjacent blocks: their records, and their contents.
 use crate::layout::BLOCK_BYTES;
+use crate::layout::base;
+use crate::layout::record_of;
 use crate::layout::record_word;
+use crate::marks::is_marked;
 use signature::golden::is_signed_at;
-ghost use mathlib.Core.Bool.{not};
 ghost use mathlib.Core.Path.{_≡_};
-ghost use Prim.Native.Nat.{_+_, _-_, _*_, _^_, _≤_, _<_};
+ghost use Prim.Native.Nat.{_+_, _-_, _*_, _≤_, _<_};
 ghost use lib.ListN.{length};
 ghost use Rattle.words.specs.Bounded.{above, any, neqb};
-ghost use Rattle.rules.specs.Signature.{signedBlock};
-ghost use Rattle.rules.specs.Store.{blockBytes, recordWord, recordWords, someBlock};
-ghost use Rattle.ledger.specs.Needs.{InLedger};
+ghost use Rattle.rules.specs.Signature.{signedBlock, unknown};
+ghost use Rattle.rules.specs.Store.{blockBytes, lent, recordWord, recordWords, someBlock};
+ghost use Rattle.ledger.specs.Needs.{BlocksInside, Fits, InLedger};
 
 // Word k differs from v in some of the m records from block b on.
 pub fn some_differs(ledger: &[u8], k: usize, b: usize, m: usize, v: u32) -> bool
@@ -41,13 +43,24 @@ pub fn is_signed_block(memory: &[u8], golden: &[u8], first: u32, p: u32) -> bool
     is_signed_at(memory, BLOCK_BYTES * b, golden)
 }
 
-// Some of the m blocks from p on is unsigned.
-pub fn some_unsigned(memory: &[u8], golden: &[u8], first: u32, p: u32, m: u32) -> bool
-    requires { ⌜ (first ≤ p) × (p + m < 2 ^ 32) × (blockBytes * (p - first + m) ≤ length (now memory)) ⌝ }
-    ensures { λ r. ⌜ r ≡ someBlock p m (λ b. not (signedBlock (now (golden .entry)) first (now (memory .entry)) b)) ⌝ }
+// Block p of the region is neither marked nor signed. A marked block is not hashed.
+pub fn is_unknown(memory: &[u8], ledger: &[u8], golden: &[u8], p: u32) -> bool
+    requires { ⌜ Fits (now memory) (now ledger) × BlocksInside (now memory) (now ledger) p 1 ⌝ }
+    ensures { λ r. ⌜ r ≡ unknown (now (golden .entry)) (lent (now (memory .entry)) (now (ledger .entry))) p ⌝ }
+{
+    if is_marked(ledger, record_of(ledger, p)) {
+        return false;
+    }
+    !is_signed_block(memory, golden, base(ledger), p)
+}
+
+// Some of the m blocks from p on is.
+pub fn some_unknown(memory: &[u8], ledger: &[u8], golden: &[u8], p: u32, m: u32) -> bool
+    requires { ⌜ Fits (now memory) (now ledger) × BlocksInside (now memory) (now ledger) p m ⌝ }
+    ensures { λ r. ⌜ r ≡ someBlock p m (unknown (now (golden .entry)) (lent (now (memory .entry)) (now (ledger .entry)))) ⌝ }
 {
     for i in 0..m {
-        if !is_signed_block(memory, golden, first, p + i) {
+        if is_unknown(memory, ledger, golden, p + i) {
             return true;
         }
     }
