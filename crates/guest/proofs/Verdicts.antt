@@ -1,4 +1,4 @@
--- Laws of verdicts: what follows from the rules' verdict is the rules' outcome, and a byte that it allows lies in the memory.
+-- Laws of verdicts: what follows from the rules' verdict is the rules' outcome, and a byte that it allows lies in the memory, in a block that has its record.
 use mathlib.Core.Bool.{Bool, true, false, cond, not, _||_}
 use mathlib.Core.List.{List, [], _∷_}
 use mathlib.Core.Path.{_≡_, refl, sym, _∙_}
@@ -9,14 +9,14 @@ use Rattle.words.proofs.Bounded.{or-false-left}
 use Rattle.entries.specs.Entries.{l1}
 use Rattle.entries.specs.Rights.{allows}
 use Rattle.rules.specs.Refusals.{_if_, answerOf}
-use Rattle.rules.specs.Store.{blockBytes, Store, lent, blocks, base, active, outside, misfit}
+use Rattle.rules.specs.Store.{blockBytes, ledgerHeadBytes, ledgerRecordBytes, Store, lent, blocks, base, active, outside, misfit}
 use Rattle.rules.specs.Outcomes.{Outcome, Accepted, settle}
 use Rattle.rules.specs.Tables.{tableBlocks}
 use Rattle.rules.specs.General.{misaligned}
-use Rattle.rules.specs.Guest.{Walk, stops, ends, walk, byteIndex, Access, reads, fetches, needed, walkRefusals, activeWalk, noActiveTable, written, byteGiven, guestOutcome}
+use Rattle.rules.specs.Guest.{Walk, stops, ends, walk, byteIndex, Access, reads, fetches, needed, walkRefusals, activeWalk, noActiveTable, written, unmarked, byteGiven, guestOutcome}
 use Rattle.rules.proofs.State.{fits, within}
-use Rattle.guest.specs.Meaning.{Verdict, refused, stopped, allowed, arrived, judged, answerIn, byteIn, memoryIn}
-use Rattle.guest.specs.Needs.{Region, InMemory}
+use Rattle.guest.specs.Meaning.{Verdict, refused, stopped, allowed, arrived, judged, answerIn, byteIn, memoryIn, ledgerIn}
+use Rattle.guest.specs.Needs.{Region, InMemory, Recorded}
 use Rattle.guest.proofs.Walking.{InRegion, walk-in-region}
 
 -- Which test decides
@@ -49,22 +49,30 @@ module _ (s : Store) {B n t : ℕ} (b : B ≡ base s) (m : n ≡ blocks s) (l : 
 
 -- The byte
 
-arrived-in-memory : (a : Access) (memory : List ℕ) (B n addr : ℕ) (w : Walk) → length memory ≡ blockBytes * n → InRegion B n w → InMemory memory (arrived a B addr w)
-unfolding arrived byteIndex InRegion InMemory
-arrived-in-memory a memory B n addr (stops v k) e i = tt
-arrived-in-memory a memory B n addr (ends v p r) e i = go (allows r (needed a)) where
-  go : (t : Bool) → InMemory memory (cond t (allowed (byteIndex B addr (ends v p r))) (stopped v 23))
-  go true = omega arith
-  go false = tt
+arrived-lies : (a : Access) (memory ledger : List ℕ) (B n addr : ℕ) (w : Walk) → length memory ≡ blockBytes * n → length ledger ≡ ledgerHeadBytes + ledgerRecordBytes * n → InRegion B n w
+    → InMemory memory (arrived a B addr w) × Recorded ledger (arrived a B addr w)
+unfolding arrived byteIndex InRegion InMemory Recorded
+arrived-lies a memory ledger B n addr (stops v k) e f i = (tt, tt)
+arrived-lies a memory ledger B n addr (ends v p r) e f i = go (allows r (needed a)) where
+  at : Bool → Verdict
+  at t = cond t (allowed (byteIndex B addr (ends v p r))) (stopped v 23)
 
-pub in-memory : (a : Access) (s : Store) (addr : ℕ) → InMemory (s .memory) (judged a s addr)
-unfolding InMemory judged
-in-memory a s addr = go (misfit s (base s)) (noActiveTable s) refl where
-  go : (f t : Bool) → misfit s (base s) ≡ f → InMemory (s .memory) (cond f (refused 1) (cond t (refused 21) (arrived a (base s) addr (activeWalk s addr))))
-  go true t e = tt
-  go false true e = tt
+  go : (t : Bool) → InMemory memory (at t) × Recorded ledger (at t)
+  go true = (omega arith, omega arith)
+  go false = (tt, tt)
+
+pub byte-lies : (a : Access) (s : Store) (addr : ℕ) → InMemory (s .memory) (judged a s addr) × Recorded (s .ledger) (judged a s addr)
+unfolding InMemory Recorded judged
+byte-lies a s addr = go (misfit s (base s)) (noActiveTable s) refl where
+  at : Bool → Bool → Verdict
+  at f t = cond f (refused 1) (cond t (refused 21) (arrived a (base s) addr (activeWalk s addr)))
+
+  go : (f t : Bool) → misfit s (base s) ≡ f → InMemory (s .memory) (at f t) × Recorded (s .ledger) (at f t)
+  go true t e = (tt, tt)
+  go false true e = (tt, tt)
   go false false e =
-      arrived-in-memory a (s .memory) (base s) (blocks s) addr (activeWalk s addr) (fits s (base s) e .memory-length)
+      let f = fits s (base s) e in
+      arrived-lies a (s .memory) (s .ledger) (base s) (blocks s) addr (activeWalk s addr) (f .memory-length) (f .ledger-length)
       (walk-in-region (base s) (blocks s) addr (s .memory) (active s))
 
 -- What follows from the rules' verdict
@@ -77,24 +85,25 @@ fetch-byte memory (stopped v k) = refl
 fetch-byte memory (allowed j) = refl
 
 -- an access that stores nothing
-pub kept : (a : Access) (memory : List ℕ) (v : Verdict) → ((j : ℕ) → memory ≡ written a memory j) → memory ≡ memoryIn a memory v
-unfolding memoryIn
-kept a memory (refused k) h = refl
-kept a memory (stopped v k) h = refl
-kept a memory (allowed j) h = h j
+pub kept : (a : Access) (memory ledger : List ℕ) (v : Verdict) → ((j : ℕ) → (memory ≡ written a memory j) × (ledger ≡ unmarked a ledger j))
+    → (memory ≡ memoryIn a memory v) × (ledger ≡ ledgerIn a ledger v)
+unfolding memoryIn ledgerIn
+kept a memory ledger (refused k) h = (refl, refl)
+kept a memory ledger (stopped v k) h = (refl, refl)
+kept a memory ledger (allowed j) h = h j
 
 module _ (a : Access) (memory ledger : List ℕ) (addr : ℕ) where
   abbrev s : Store
   s = lent memory ledger
 
   abbrev accepted : Walk → Accepted
-  accepted w = record { store = lent (written a memory (byteIndex (base s) addr w)) ledger; byte = byteGiven a memory (byteIndex (base s) addr w) }
+  accepted w = let j = byteIndex (base s) addr w in record { store = lent (written a memory j) (unmarked a ledger j); byte = byteGiven a memory j; hashed = 0 }
 
   abbrev outcomeIn : Verdict → Outcome
-  outcomeIn v = record { answer = answerIn v; after = lent (memoryIn a memory v) ledger; byte = byteIn a memory v }
+  outcomeIn v = record { answer = answerIn v; after = lent (memoryIn a memory v) (ledgerIn a ledger v); byte = byteIn a memory v; hashed = 0 }
 
   arrived-outcome : (w : Walk) → InRegion (base s) (blocks s) w → settle (answerOf (walkRefusals a w)) s (accepted w) ≡ outcomeIn (arrived a (base s) addr w)
-  unfolding settle answerOf walkRefusals byteIndex arrived answerIn byteIn memoryIn InRegion
+  unfolding settle answerOf walkRefusals byteIndex arrived answerIn byteIn memoryIn ledgerIn InRegion
   arrived-outcome (stops v zero) i = let z : ⊥ = omega arith in absurd z
   arrived-outcome (stops v (suc k)) i = refl
   arrived-outcome (ends v p r) i = go (allows r (needed a)) where
@@ -103,7 +112,7 @@ module _ (a : Access) (memory ledger : List ℕ) (addr : ℕ) where
     go false = refl
 
   judged-outcome : guestOutcome a s addr ≡ outcomeIn (judged a s addr)
-  unfolding guestOutcome settle answerOf judged answerIn byteIn memoryIn
+  unfolding guestOutcome settle answerOf judged answerIn byteIn memoryIn ledgerIn
   judged-outcome = go (misfit s (base s)) (noActiveTable s) where
     w : Walk
     w = activeWalk s addr
@@ -113,6 +122,6 @@ module _ (a : Access) (memory ledger : List ℕ) (addr : ℕ) where
     go false true = refl
     go false false = arrived-outcome w (walk-in-region (base s) (blocks s) addr memory (active s))
 
-  pub outcome-is : {v : Verdict} {r b : ℕ} {m : List ℕ} → v ≡ judged a s addr → r ≡ answerIn v → b ≡ byteIn a memory v → m ≡ memoryIn a memory v
-      → (r ≡ guestOutcome a s addr .answer) × ((b ≡ guestOutcome a s addr .byte) × (lent m ledger ≡ guestOutcome a s addr .after))
-  outcome-is e p q t = rw (judged-outcome, ← e, p, q, t) (refl, (refl, refl))
+  pub outcome-is : {v : Verdict} {r b : ℕ} {m l : List ℕ} → v ≡ judged a s addr → r ≡ answerIn v → b ≡ byteIn a memory v → (m ≡ memoryIn a memory v) × (l ≡ ledgerIn a ledger v)
+      → (r ≡ guestOutcome a s addr .answer) × ((b ≡ guestOutcome a s addr .byte) × (lent m l ≡ guestOutcome a s addr .after))
+  outcome-is e p q (t, u) = rw (judged-outcome, ← e, p, q, t, u) (refl, (refl, refl))

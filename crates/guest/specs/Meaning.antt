@@ -6,7 +6,7 @@ use Rattle.entries.specs.Entries.{Level}
 use Rattle.entries.specs.Meaning.{levelOf}
 use Rattle.entries.specs.Rights.{allows}
 use Rattle.rules.specs.Store.{Store, base, misfit}
-use Rattle.rules.specs.Guest.{Walk, stops, ends, byteIndex, Access, reads, fetches, writes, needed, noActiveTable, activeWalk, written, byteGiven}
+use Rattle.rules.specs.Guest.{Walk, stops, ends, byteIndex, Access, reads, fetches, writes, needed, noActiveTable, activeWalk, written, unmarked, byteGiven}
 use Rattle.guest.specs.declared.walk.Walk as walk
 use Rattle.guest.specs.declared.walk.Walk.the-variants.{Stops, Ends}
 use Rattle.guest.specs.declared.access.Access as access
@@ -66,3 +66,9 @@ unfoldable pub memoryIn : Access → List ℕ → Verdict → List ℕ
 memoryIn a memory (refused k) = memory
 memoryIn a memory (stopped v k) = memory
 memoryIn a memory (allowed j) = written a memory j
+
+-- guest leaves, calls 3, ledger 10: the ledger that an access leaves by its verdict
+unfoldable pub ledgerIn : Access → List ℕ → Verdict → List ℕ
+ledgerIn a ledger (refused k) = ledger
+ledgerIn a ledger (stopped v k) = ledger
+ledgerIn a ledger (allowed j) = unmarked a ledger j

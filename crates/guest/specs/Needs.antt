@@ -1,11 +1,12 @@
 -- What the inner functions require and promise of each other (RULES: memory, guest).
 use mathlib.Core.List.{List}
 use mathlib.Core.Path.{_≡_}
-use Prim.Native.Nat.{ℕ, zero, suc, _+_, _*_, _<_, _≤_}
+use Prim.Native.Nat.{ℕ, zero, suc, _+_, _*_, _/_, _<_, _≤_}
 use lib.ListN.{length}
 use Rattle.entries.specs.Entries.{Entry, Level}
 use Rattle.rules.specs.Store.{blockBytes, physicalBlocks}
 use Rattle.rules.specs.Guest.{Walk, stops, ends, passes}
+use Rattle.ledger.specs.Needs.{InLedger}
 use Rattle.guest.specs.Meaning.{Verdict, refused, stopped, allowed}
 
 -- memory 1, memory 2: the memory is n blocks from physical block B on, as far as a walk relies on it
@@ -32,3 +33,9 @@ unfoldable pub InMemory : List ℕ → Verdict → Type 0
 InMemory memory (refused k) = Unit {0}
 InMemory memory (stopped v k) = Unit {0}
 InMemory memory (allowed j) = j < length memory
+
+-- calls 1: the ledger has the record of the block in which that byte lies
+unfoldable pub Recorded : List ℕ → Verdict → Type 0
+Recorded ledger (refused k) = Unit {0}
+Recorded ledger (stopped v k) = Unit {0}
+Recorded ledger (allowed j) = InLedger ledger (j / blockBytes + 1)

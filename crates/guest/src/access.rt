@@ -7,6 +7,7 @@ use entries::rights::allows;
 use ledger::layout::BLOCK_BYTES;
 use ledger::layout::active;
 use ledger::layout::base;
+use ledger::marks::clear_mark;
 use ledger::refusals::ACCEPTED;
 use ledger::refusals::MISFIT;
 use ledger::refusals::NO_ACTIVE_TABLE;
@@ -24,8 +25,8 @@ ghost use Rattle.rules.specs.General.{misaligned};
 ghost use Rattle.rules.specs.Guest.{fetches, guestOutcome, needed, reads, writes};
 ghost use Rattle.rules.specs.Store.{lent, outside, physicalBlocks};
 ghost use Rattle.rules.specs.Tables.{tableBlocks};
-ghost use Rattle.guest.specs.Meaning.{accessOf, answerIn, arrived, byteIn, judged, memoryIn, verdictOf, walkOf};
-ghost use Rattle.guest.specs.Needs.{EndsFrom, InMemory};
+ghost use Rattle.guest.specs.Meaning.{accessOf, answerIn, arrived, byteIn, judged, ledgerIn, memoryIn, verdictOf, walkOf};
+ghost use Rattle.guest.specs.Needs.{EndsFrom, InMemory, Recorded};
 
 enum Access {
     Read,
@@ -127,16 +128,19 @@ fn give(verdict: Verdict, memory: &[u8], byte: &mut u8) -> u32
     }
 }
 
-// Stores the low 8 bits of the byte (guest leaves).
-fn store(verdict: Verdict, memory: &mut [u8], byte: u32) -> u32
+// Stores the low 8 bits of the byte and clears the mark of its block (guest leaves).
+fn store(verdict: Verdict, memory: &mut [u8], ledger: &mut [u8], byte: u32) -> u32
     requires { ⌜ InMemory (now memory) (verdictOf verdict) ⌝ }
+    requires { ⌜ Recorded (now ledger) (verdictOf verdict) ⌝ }
     ensures { λ r. ⌜ r ≡ answerIn (verdictOf verdict) ⌝ }
     ensures { λ r. ⌜ now (memory .exit) ≡ memoryIn (writes byte) (now (memory .entry)) (verdictOf verdict) ⌝ }
+    ensures { λ r. ⌜ now (ledger .exit) ≡ ledgerIn (writes byte) (now (ledger .entry)) (verdictOf verdict) ⌝ }
 {
     match verdict {
         Verdict::Refused(number) | Verdict::Stopped { number, level: _ } => number,
         Verdict::Allowed(at) => {
             memory[at] = (byte % 0x100) as u8;
+            clear_mark(ledger, at / BLOCK_BYTES);
             ACCEPTED
         }
     }
@@ -158,10 +162,10 @@ pub fn fetch(memory: &[u8], ledger: &[u8], address: u32, byte: &mut u8) -> u32
     give(judge(memory, ledger, Access::Fetch, address), memory, byte)
 }
 
-pub fn write(memory: &mut [u8], ledger: &[u8], address: u32, byte: u32) -> u32
+pub fn write(memory: &mut [u8], ledger: &mut [u8], address: u32, byte: u32) -> u32
     ensures { λ r. ⌜ r ≡ guestOutcome (writes byte) (lent (now (memory .entry)) (now (ledger .entry))) address .answer ⌝ }
-    ensures { λ r. ⌜ lent (now (memory .exit)) (now (ledger .entry)) ≡ guestOutcome (writes byte) (lent (now (memory .entry)) (now (ledger .entry))) address .after ⌝ }
+    ensures { λ r. ⌜ lent (now (memory .exit)) (now (ledger .exit)) ≡ guestOutcome (writes byte) (lent (now (memory .entry)) (now (ledger .entry))) address .after ⌝ }
 {
     let verdict = judge(memory, ledger, Access::Write(byte), address);
-    store(verdict, memory, byte)
+    store(verdict, memory, ledger, byte)
 }
