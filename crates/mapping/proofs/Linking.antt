@@ -55,6 +55,6 @@ module _ (s : Store) (p i t j : ℕ) where
     link-ready =
         let t1 = now all-passed in
         let t4 = rest (rest (rest all-passed)) in (
-          slot {v = l1} 1 (omega arith) (record { fits = t1; inside = now (rest all-passed); in-table = now t4 }),
+          slot {v = l1} 1 (omega arith) (omega arith) (record { fits = t1; inside = now (rest all-passed); in-table = now t4 }),
           ((λ c g. now from10), countable added s (linkTo t j) t 1 (link-spreads t j link-table) t1 (λ c g. now from10) (now (rest (rest from10)))),
         )

@@ -17,15 +17,15 @@ use Rattle.rules.specs.General.{tableOutside, misaligned, beyondTable, holder, 
 use Rattle.rules.specs.Map.{unfitTarget, mapRefusals}
 use Rattle.rules.proofs.Refusals.{Passed, passed, now, rest}
 use Rattle.rules.proofs.State.{equal, fits, within}
-use Rattle.rules.proofs.Edits.{words-in-block}
 use Rattle.rules.proofs.Mapping.{target-above}
 use Rattle.rules.proofs.Memory.{fill-same}
+use Rattle.ledger.specs.Counters.{Spreads}
 use Rattle.ledger.specs.Needs.{GrantsInside, Countable}
 use Rattle.ledger.proofs.Counting.{countable}
 use Rattle.ledger.proofs.Judge.{Decides, decides}
 use Rattle.mapping.specs.Pieces.{holderRefusals, mapPlaceRefusals, mapTargetRefusals}
 use Rattle.mapping.specs.Needs.{InTable, Slot}
-use Rattle.mapping.proofs.Slots.{slot}
+use Rattle.mapping.proofs.Slots.{mapping-slot}
 use Rattle.mapping.proofs.Windows.{mapping-spreads, mapping-words-alike}
 
 -- 10 does not apply, so the target is in the region
@@ -36,6 +36,10 @@ unfit-inside f s p i t r h =
     let written = allows r write && someBlock t (targetBlocks f) (λ b. neqb (typeOf s b) typeD) in
     let own = allows r execute && among t (targetBlocks f) (holder p i) in
     or-false-left out written (or-false-left (out || written) own h)
+
+-- a mapping gives its target what its first entry grants, as the code has both
+pub map-spreads : (f : Form) (t r : ℕ) {e : Entry} {n : ℕ} → e ≡ mapping f t r 0 → n ≡ targetBlocks f → Spreads (mappingWords f) (mapping f t r) e t n
+map-spreads f t r is blocks-are = rw (is, blocks-are) (mapping-spreads f t r)
 
 -- The list
 
@@ -52,7 +56,7 @@ module _ (f : Form) (golden : List ℕ) (s : Store) (p i t : ℕ) where
         let t2 = rest (rest passes) in record { fits = now passes; inside = now t2; in-table = now (rest (rest (rest (rest t2)))) }
 
     pub map-slot : Slot s p i (mappingWords f)
-    map-slot = slot (mappingWords f) (words-in-block f i (now (rest (rest (rest (rest (rest passes))))))) map-table
+    map-slot = mapping-slot f (now (rest (rest (rest (rest (rest passes)))))) map-table
 
 module _ (f : Form) (golden : List ℕ) (s : Store) (p i t r : ℕ) where
   -- the list by its pieces
@@ -81,13 +85,17 @@ module _ (f : Form) (golden : List ℕ) (s : Store) (p i t r : ℕ) where
         let (lo, hi) = within (base s) (blocks s) t (targetBlocks f) inside in
         (omega (arith, target-above f), equal (t % targetBlocks f) 0 (now from3))
 
+    -- the region, and the target in it
+    pub map-region : (e : Entry) {n : ℕ} → n ≡ targetBlocks f → (misfit s (base s) ≡ false) × GrantsInside (s .memory) (s .ledger) e t n
+    map-region e blocks-are = rw blocks-are (now all-passed, λ c g. inside)
+
     pub map-ready : {e : Entry} {m n : ℕ} → e ≡ mapping f t r 0 → m ≡ mappingWords f → n ≡ targetBlocks f
         → Slot s p i m × (GrantsInside (s .memory) (s .ledger) e t n × ((c : Counter) → Countable added (s .ledger) c e t n))
     map-ready is number blocks-are =
         let t1 = now all-passed in
         let table : InTable (level f) s p i = record { fits = t1; inside = now (rest (rest all-passed)); in-table = now (rest (rest from3)) } in
         rw (is, number, blocks-are) (
-          slot (mappingWords f) (words-in-block f i (now (rest from3))) table,
+          mapping-slot f (now (rest from3)) table,
           ((λ c g. inside), countable added s (mapping f t r 0) t (targetBlocks f) (mapping-spreads f t r) t1 (λ c g. inside) (now (rest (rest (rest from10))))),
         )
 

@@ -1,11 +1,16 @@
 -- What the tests of a table and an index say of the words.
-use Prim.Native.Nat.{ℕ, _+_, _*_, _/_, _%_, _<_, _≤_}
+use mathlib.Core.Bool.{false}
+use mathlib.Core.Path.{_≡_}
+use Prim.Native.Nat.{ℕ, _+_, _-_, _*_, _/_, _%_, _^_, _<_, _≤_}
 use native.Mathlib.Omega.{arith}
 use borrow.Author.Tests.{leb-false}
 use Rattle.entries.specs.Entries.{Level}
 use Rattle.rules.specs.Store.{blockWords, Store, base, blocks}
-use Rattle.rules.specs.Tables.{tableBlocks, tableEntries}
+use Rattle.rules.specs.Tables.{tableBlocks, tableEntries, Form, sections, pages, larges, level, mappingWords}
+use Rattle.rules.specs.General.{misaligned, holder}
+use Rattle.rules.proofs.Edits.{words-in-block}
 use Rattle.rules.proofs.State.{Fit, fits, within}
+use Rattle.ledger.specs.Needs.{InLedger}
 use Rattle.mapping.specs.Needs.{InTable, Slot}
 
 pub record Bounds (v : Level) (s : Store) (p i : ℕ) : Type 0 where
@@ -22,5 +27,18 @@ bounds {v} {s} {p} {i} t =
     record { fit = fits s (base s) (t .fits); low = lo; high = hi; small = l; holder-in = omega arith }
 
 -- words that lie in one block
-pub slot : {v : Level} {s : Store} {p i : ℕ} (m : ℕ) → i % blockWords + m ≤ blockWords → InTable v s p i → Slot s p i m
-slot m whole t = let b = bounds t in let f = b .fit in record { fits = t .fits; low = b .low; holds = omega arith }
+pub slot : {v : Level} {s : Store} {p i : ℕ} (m : ℕ) → 0 < m → i % blockWords + m ≤ blockWords → InTable v s p i → Slot s p i m
+slot m some whole t = let b = bounds t in let f = b .fit in record { fits = t .fits; low = b .low; positive = some; holds = omega arith }
+
+some-words : (f : Form) → 0 < mappingWords f
+some-words sections = omega arith
+some-words pages = omega arith
+some-words larges = omega arith
+
+-- the words of a mapping, from an index that is a multiple of their number
+pub mapping-slot : (f : Form) {s : Store} {p i : ℕ} → misaligned i (mappingWords f) ≡ false → InTable (level f) s p i → Slot s p i (mappingWords f)
+mapping-slot f {i = i} aligned t = slot (mappingWords f) (some-words f) (words-in-block f i aligned) t
+
+-- the block that holds the first of the words has a record
+pub slot-holder : {s : Store} {p i m : ℕ} → Slot s p i m → (holder p i < 2 ^ 32) × InLedger (s .ledger) (holder p i - base s + 1)
+slot-holder {s} sl = let f = fits s (base s) (sl .fits) in (omega arith, omega arith)

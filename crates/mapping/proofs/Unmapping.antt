@@ -15,7 +15,6 @@ use Rattle.rules.specs.Tables.{tableBlocks, Form, level, mappingWords, takes, w
 use Rattle.rules.specs.General.{tableOutside, misaligned, beyondTable, removed, someOverrun}
 use Rattle.rules.specs.Unmap.{unmapRefusals, unmapAfter}
 use Rattle.rules.proofs.Refusals.{Passed, passed, now, rest}
-use Rattle.rules.proofs.Edits.{words-in-block}
 use Rattle.rules.proofs.Gains.{grants-place}
 use Rattle.ledger.specs.Counters.{Spreads}
 use Rattle.ledger.specs.Needs.{GrantsInside, Countable}
@@ -23,7 +22,7 @@ use Rattle.ledger.proofs.Counting.{countable}
 use Rattle.ledger.proofs.Judge.{Decides, decides, here, past, none}
 use Rattle.mapping.specs.Needs.{InTable, Slot, SpeaksFor}
 use Rattle.mapping.specs.Pieces.{holderRefusals, removalRefusals, slotRefusals}
-use Rattle.mapping.proofs.Slots.{slot}
+use Rattle.mapping.proofs.Slots.{mapping-slot}
 use Rattle.mapping.proofs.Windows.{window-speaks}
 
 -- an entry whose place is in the region grants nothing outside
@@ -106,6 +105,6 @@ module _ (f : Form) (s : Store) (p i : ℕ) where
         let placed : astray (base s) (blocks s) e ≡ false = rw is (sym (speaks .placed first-taken (base s) (blocks s)) ∙ now (rest last)) in
         let inside = place-inside s e placed in
         rw (number, start, length) (
-          slot (mappingWords f) (words-in-block f i (now t3)) table,
+          mapping-slot f (now t3) table,
           (inside, countable removed s e (placeFirst e) (placeBlocks e) (unmap-spreads is) t1 inside (now (rest (rest last)))),
         )

@@ -22,10 +22,11 @@ pub record InTable (v : Level) (s : Store) (p i : ℕ) : Type 0 where
   pub inside : tableOutside v s p ≡ false
   pub in-table : beyondTable v i ≡ false
 
--- calls 1, refusal 1: 1 does not apply, and the memory has the m words from index i of the table at block p on
+-- calls 1, refusal 1: 1 does not apply, and the memory has the m words from index i of the table at block p on, at least one
 pub record Slot (s : Store) (p i m : ℕ) : Type 0 where
   pub fits : misfit s (base s) ≡ false
   pub low : base s ≤ p
+  pub positive : 0 < m
   pub holds : 4 * (wordIndex s p i + m) ≤ length (s .memory)
 
 -- refusal 1, map 10: 1 does not apply, and the m blocks from t on lie in the region

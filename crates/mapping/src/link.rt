@@ -90,7 +90,7 @@ fn link_refusal(
     link_target_refusal(memory, ledger, target, table)
 }
 
-// The word at the index, and the count of the link (link leaves).
+// The word at the index, the count of the link, and the holder's mark (link leaves).
 pub fn link(
     memory: &mut [u8],
     ledger: &mut [u8],

@@ -14,6 +14,8 @@ use entries::entry::Entry;
 use entries::rights::are_unlawful;
 use ledger::counters::Change;
 use ledger::image::image_refusal;
+use ledger::marks::hashed_blocks;
+use ledger::marks::mark_executed;
 use ledger::refusals::ACCEPTED;
 use ledger::refusals::BEYOND_TABLE;
 use ledger::refusals::MISALIGNED;
@@ -103,16 +105,28 @@ fn map_refusal(
     target_refusal(form, memory, ledger, golden, request, e)
 }
 
-// The words from the index on, and the counts of the mapping (map leaves).
-pub fn map(form: Form, memory: &mut [u8], ledger: &mut [u8], golden: &[u8], request: Request) -> u32
+// The words from the index on, the counts of the mapping, and the marks of the blocks to be executed (map leaves); and how many of these were hashed
+// (calls 8).
+pub fn map(
+    form: Form,
+    memory: &mut [u8],
+    ledger: &mut [u8],
+    golden: &[u8],
+    request: Request,
+    hashed: &mut u32,
+) -> u32
     ensures { λ r. ⌜ r ≡ mapOutcome (formOf form) (now (golden .entry)) (lent (now (memory .entry)) (now (ledger .entry))) (request .block) (request .index) (request .target) (request .rights) .answer ⌝ }
+    ensures { λ r. ⌜ now (hashed .exit) ≡ mapOutcome (formOf form) (now (golden .entry)) (lent (now (memory .entry)) (now (ledger .entry))) (request .block) (request .index) (request .target) (request .rights) .hashed ⌝ }
     ensures { λ r. ⌜ lent (now (memory .exit)) (now (ledger .exit)) ≡ mapOutcome (formOf form) (now (golden .entry)) (lent (now (memory .entry)) (now (ledger .entry))) (request .block) (request .index) (request .target) (request .rights) .after ⌝ }
 {
     let e = mapping(form, request.target, request.rights);
     let refusal = map_refusal(form, memory, ledger, golden, request, e);
     if refusal != ACCEPTED {
+        *hashed = 0;
         return refusal;
     }
+    let n = target_blocks(form);
+    *hashed = hashed_blocks(memory, ledger, e, request.target, n);
     let w = mapping_word(form, request.target, request.rights);
     write_entries(
         Change::Added,
@@ -124,7 +138,8 @@ pub fn map(form: Form, memory: &mut [u8], ledger: &mut [u8], golden: &[u8], requ
         w,
         e,
         request.target,
-        target_blocks(form),
+        n,
     );
+    mark_executed(memory, ledger, e, request.target, n);
     ACCEPTED
 }

@@ -10,6 +10,7 @@ use ledger::layout::EXECUTABLE;
 use ledger::layout::base;
 use ledger::layout::record_of;
 use ledger::layout::record_word;
+use ledger::marks::clear_mark;
 use ledger::refusals::ACCEPTED;
 use ledger::refusals::EXECUTABLE_HOLDER;
 use ledger::refusals::WRONG_TYPE;
@@ -20,17 +21,18 @@ use words::put_word;
 ghost use mathlib.Core.Path.{_≡_};
 ghost use Prim.Native.Nat.{ℕ, _+_, _-_, _*_, _^_, _<_, _≤_};
 ghost use lib.ListN.{length};
+ghost use Rattle.words.specs.Bounded.{Small};
 ghost use Rattle.words.specs.Words.{word};
 ghost use Rattle.entries.specs.Entries as specified;
 ghost use Rattle.entries.specs.Meaning.{levelOf, meaning};
 ghost use Rattle.rules.specs.Refusals.{answerOf};
 ghost use Rattle.rules.specs.Store as store;
-ghost use Rattle.rules.specs.Store.{basePlace, blockWords, fill, ledgerHeadBytes, lent};
+ghost use Rattle.rules.specs.Store.{base as storedBase, basePlace, blockWords, clearMark, fill, ledgerHeadBytes, lent};
 ghost use Rattle.rules.specs.Tables.{tableEntry, wordIndex};
-ghost use Rattle.rules.specs.General.{occupied, recounted};
+ghost use Rattle.rules.specs.General.{holder, occupied, recounted};
 ghost use Rattle.ledger.specs.Counters.{Spreads};
 ghost use Rattle.ledger.specs.Meaning.{changeOf};
-ghost use Rattle.ledger.specs.Needs.{Countable, GrantsInside};
+ghost use Rattle.ledger.specs.Needs.{Countable, GrantsInside, recordOf};
 ghost use Rattle.mapping.specs.Needs.{InTable, Slot};
 ghost use Rattle.mapping.specs.Pieces.{holderRefusals};
 
@@ -49,6 +51,14 @@ pub fn entry_in(level: Level, memory: &[u8], ledger: &[u8], block: u32, index: u
     entry_at(level, memory, word_index(ledger, block, index))
 }
 
+// The number of the record of the block that holds an entry of the table at a block.
+fn holder_record(ledger: &[u8], block: u32, index: u32) -> usize
+    requires { ⌜ (ledgerHeadBytes ≤ length (now ledger)) × (word (now ledger) basePlace ≤ block) × (holder block index < 2 ^ 32) ⌝ }
+    ensures { λ r. ⌜ Small (recordOf (now (ledger .entry)) (holder block index)) (2 ^ 32) r ⌝ }
+{
+    record_of(ledger, block + index / BLOCK_WORDS)
+}
+
 // Refusals 5 and 7 of the block that holds the entry.
 pub fn holder_refusal(level: Level, memory: &[u8], ledger: &[u8], block: u32, index: u32) -> u32
     requires { ⌜ InTable (levelOf level) (lent (now memory) (now ledger)) block index ⌝ }
@@ -57,7 +67,7 @@ pub fn holder_refusal(level: Level, memory: &[u8], ledger: &[u8], block: u32, in
     if is_other_type(level, memory, ledger, block, table_type(level)) {
         return WRONG_TYPE;
     }
-    let b = record_of(ledger, block + index / BLOCK_WORDS);
+    let b = holder_record(ledger, block, index);
     if 0 < record_word(ledger, EXECUTABLE, b) {
         return EXECUTABLE_HOLDER;
     }
@@ -99,8 +109,8 @@ fn fill_words(memory: &mut [u8], j: usize, m: usize, w: u32)
     }
 }
 
-// Writes the m words from an index on, and adds what the entry e grants to the blocks from p on, or takes it away: what the entries of these words give
-// that are new, or stood there.
+// Writes the m words from an index on, clears the mark of the block that holds them, and adds what the entry e grants to the blocks from p on, or takes
+// it away: what the entries of these words give that are new, or stood there.
 pub fn write_entries(
     change: Change,
     memory: &mut [u8],
@@ -117,9 +127,11 @@ pub fn write_entries(
     requires { ⌜ GrantsInside (now memory) (now ledger) (meaning e) p n ⌝ }
     requires { ⌜ ((c : store.Counter) → Countable (changeOf change) (now ledger) c (meaning e) p n) ⌝ }
     ensures { λ r. ⌜ now (memory .exit) ≡ fill (now (memory .entry)) (wordIndex (lent (now (memory .entry)) (now (ledger .entry))) block index) m (λ k. w) ⌝ }
-    ensures { λ r. ⌜ ((l : ℕ) (x : ℕ → specified.Entry) → Spreads l x (meaning e) p n → now (ledger .exit) ≡ recounted (changeOf change) (lent (now (memory .entry)) (now (ledger .entry))) l x) ⌝ }
+    ensures { λ r. ⌜ ((l : ℕ) (x : ℕ → specified.Entry) → Spreads l x (meaning e) p n → now (ledger .exit) ≡ clearMark (recounted (changeOf change) (lent (now (memory .entry)) (now (ledger .entry))) l x) (holder block index - storedBase (lent (now (memory .entry)) (now (ledger .entry))))) ⌝ }
 {
     let j = word_index(ledger, block, index);
+    let record = holder_record(ledger, block, index);
     change_blocks(change, memory, ledger, e, p, n);
+    clear_mark(ledger, record);
     fill_words(memory, j, m as usize, w);
 }

@@ -23,7 +23,7 @@ use ledger::region::blocks;
 use ledger::region::is_outside;
 use ledger::scan::some_above_zero;
 use ledger::scan::some_differs;
-use ledger::scan::some_unsigned;
+use ledger::scan::some_unknown;
 ghost use mathlib.Core.Bool.{_&&_};
 ghost use mathlib.Core.Path.{_≡_};
 ghost use Prim.Native.Nat.{_-_, _^_, _<_};
@@ -111,7 +111,7 @@ fn is_clashing_target(form: Form, memory: &[u8], ledger: &[u8], target: u32, rig
     false
 }
 
-// The target is not signed (map 12). For other rights nothing is hashed.
+// Some block of the target is neither marked nor signed (map 12). For other rights nothing is hashed.
 fn is_unsigned_target(
     form: Form,
     memory: &[u8],
@@ -126,7 +126,7 @@ fn is_unsigned_target(
     if !allows(rights, Right::Execute) {
         return false;
     }
-    some_unsigned(memory, golden, base(ledger), target, target_blocks(form))
+    some_unknown(memory, ledger, golden, target, target_blocks(form))
 }
 
 // Refusals 10 to 13 of the target, with the new entry.

@@ -84,7 +84,7 @@ fn slot_refusal(form: Form, memory: &[u8], ledger: &[u8], block: u32, index: u32
     holder_refusal(level, memory, ledger, block, index)
 }
 
-// The words and the counts of the mapping go (unmap leaves).
+// The words and the counts of the mapping go, and the holder's mark (unmap leaves).
 pub fn unmap(form: Form, memory: &mut [u8], ledger: &mut [u8], block: u32, index: u32) -> u32
     ensures { λ r. ⌜ r ≡ unmapOutcome (formOf form) (lent (now (memory .entry)) (now (ledger .entry))) block index .answer ⌝ }
     ensures { λ r. ⌜ lent (now (memory .exit)) (now (ledger .exit)) ≡ unmapOutcome (formOf form) (lent (now (memory .entry)) (now (ledger .entry))) block index .after ⌝ }

@@ -85,7 +85,7 @@ returns-5 : tie.Need-returns-5
 returns-5 c = from-holder (c .before .before) (refused _ _ (c .before .holder-refusal .ensures) (c .if5 .taken))
 
 is-occupied-requires : tie.Need-is-occupied-requires
-is-occupied-requires c κs = slot {v = l1} 1 (omega arith) (entry (c .before .before))
+is-occupied-requires c κs = slot {v = l1} 1 (omega arith) (omega arith) (entry (c .before .before))
 
 returns-6 : tie.Need-returns-6
 returns-6 c = from-holder (c .before .before .before .before) (accepted (held (c .before .before)) (here (told (c .before .is-occupied .ensures) (c .if6 .taken))))
