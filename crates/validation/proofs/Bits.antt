@@ -1,4 +1,4 @@
--- Laws of a set of blocks in bits: a block that is marked joins the set, and no other.
+-- Laws of a set of blocks in bits: a block joins the set, and no other.
 use mathlib.Core.Bool.{Bool, true, false, not, _||_, or-false, or-assoc}
 use mathlib.Core.List.{List}
 use mathlib.Core.Logic.{⊎-elim}
@@ -7,12 +7,12 @@ use Prim.Native.Nat.{ℕ, _+_, _*_, _/_, _%_, _^_, _<_, _≤_}
 use native.Mathlib.Omega.{arith}
 use lib.Bits.{bitOr}
 use lib.Dec.{eqb}
-use lib.ListN.{length, getD, set, replicate, getD-replicate}
+use lib.ListN.{length, getD, set, replicate, length-replicate, getD-replicate, List·getD-eq-default}
 use lib.Seq.{getD-set-same, getD-set-other}
 use borrow.Author.Tests.{eq-eqb, ne-eqb, eqb-true, eqb-false}
 use Rattle.words.specs.Bounded.{among, any}
 use Rattle.words.proofs.Bounded.{both-ways, below-or-above, or-left, or-right, or-cases, any-none, among-in, among-out, among-within}
-use Rattle.validation.specs.Marks.{isSet, marked}
+use Rattle.validation.specs.Sets.{isSet, member, EmptySet}
 
 -- two tests differ
 abbrev differs : Bool → Bool → Bool
@@ -43,35 +43,50 @@ same-block b k e =
     (λ t. let q = eqb-true b k t in eq-eqb (b % 8) (k % 8) (omega arith))
 
 -- the byte of block b becomes y, with the block's bit set
-module _ (marks : List ℕ) (b y : ℕ) (joined : (k : ℕ) → k < 8 → isSet y k ≡ (isSet (getD marks (b / 8) 0) k || eqb (b % 8) k)) (inside : b < 8 * length marks) where
-  pub mark-joins : (k : ℕ) → marked (set marks (b / 8) y) k ≡ (marked marks k || eqb b k)
-  unfolding marked
-  mark-joins k = go (eqb (k / 8) (b / 8)) refl where
-    go : (t : Bool) → eqb (k / 8) (b / 8) ≡ t → marked (set marks (b / 8) y) k ≡ (marked marks k || eqb b k)
+module _ (members : List ℕ) (b y : ℕ) (joined : (k : ℕ) → k < 8 → isSet y k ≡ (isSet (getD members (b / 8) 0) k || eqb (b % 8) k)) (inside : b < 8 * length members) where
+  pub insert-joins : (k : ℕ) → member (set members (b / 8) y) k ≡ (member members k || eqb b k)
+  unfolding member
+  insert-joins k = go (eqb (k / 8) (b / 8)) refl where
+    go : (t : Bool) → eqb (k / 8) (b / 8) ≡ t → member (set members (b / 8) y) k ≡ (member members k || eqb b k)
     go true t =
         let e = eqb-true (k / 8) (b / 8) t in
-        rw (e, getD-set-same marks (b / 8) y 0 (omega arith), ← same-block b k e) (joined (k % 8) (omega arith))
+        rw (e, getD-set-same members (b / 8) y 0 (omega arith), ← same-block b k e) (joined (k % 8) (omega arith))
     go false t =
         let h = eqb-false (k / 8) (b / 8) t in
-        rw (getD-set-other marks (b / 8) (k / 8) y 0 h, ne-eqb b k (λ q. h (omega arith)))
-        (sym (or-false (isSet (getD marks (k / 8) 0) (k % 8))))
+        rw (getD-set-other members (b / 8) (k / 8) y 0 h, ne-eqb b k (λ q. h (omega arith)))
+        (sym (or-false (isSet (getD members (k / 8) 0) (k % 8))))
 
 -- a set with no bit set has no block
 zero-bits : any 8 (λ i. isSet 0 i) ≡ false
 unfolding any
 zero-bits = refl
 
-pub none-marked : (n b : ℕ) → b < 8 * n → marked (replicate n 0) b ≡ false
-unfolding marked
-none-marked n b h = rw (getD-replicate {A = ℕ} n (b / 8) 0 0 (omega arith)) (any-none (λ i. isSet 0 i) 8 zero-bits (b % 8) (omega arith))
+-- nor has a byte that is 0
+pub byte-empty : (members : List ℕ) (i : ℕ) → getD members i 0 ≡ 0 → (k : ℕ) → k < 8 → member members (8 * i + k) ≡ false
+unfolding member
+byte-empty members i h k l =
+    let e : (8 * i + k) / 8 ≡ i = omega arith in
+    rw (e, h) (any-none (λ i. isSet 0 i) 8 zero-bits ((8 * i + k) % 8) (omega arith))
 
--- the turns of a loop that marks the blocks from b on
-pub marks-start : (marks : List ℕ) (b k : ℕ) → marked marks k ≡ (marked marks k || among b 0 k)
-marks-start marks b k = rw (among-out b 0 k (λ l. omega arith)) (sym (or-false (marked marks k)))
+no-members : (n b : ℕ) → b < 8 * n → member (replicate n 0) b ≡ false
+unfolding member
+no-members n b h = rw (getD-replicate {A = ℕ} n (b / 8) 0 0 (omega arith)) (any-none (λ i. isSet 0 i) 8 zero-bits (b % 8) (omega arith))
 
-pub marks-next : (marks now after : List ℕ) (b i : ℕ) → ((k : ℕ) → marked now k ≡ (marked marks k || among b i k)) → ((k : ℕ) → marked after k ≡ (marked now k || eqb (b + i) k))
-    → (k : ℕ) → marked after k ≡ (marked marks k || among b (i + 1) k)
-marks-next marks now after b i before one k = one k ∙ (rw (before k) (or-assoc (marked marks k) (among b i k) (eqb (b + i) k) ∙ ap (λ (t : Bool). marked marks k || t) (sym more))) where
+-- nor behind the last bit
+pub empty-set : (n : ℕ) → EmptySet (replicate n 0)
+unfolding member
+empty-set n b =
+    ⊎-elim (λ (l : b < 8 * n). no-members n b l)
+    (λ (l : 8 * n ≤ b). rw (List·getD-eq-default {A = ℕ} (replicate n 0) 0 {n = b / 8} (rw (length-replicate {A = ℕ} n 0) (omega arith))) (any-none (λ i. isSet 0 i) 8 zero-bits (b % 8) (omega arith)))
+    (below-or-above b (8 * n))
+
+-- the turns of a loop that members the blocks from b on
+pub members-start : (members : List ℕ) (b k : ℕ) → member members k ≡ (member members k || among b 0 k)
+members-start members b k = rw (among-out b 0 k (λ l. omega arith)) (sym (or-false (member members k)))
+
+pub members-next : (members now after : List ℕ) (b i : ℕ) → ((k : ℕ) → member now k ≡ (member members k || among b i k)) → ((k : ℕ) → member after k ≡ (member now k || eqb (b + i) k))
+    → (k : ℕ) → member after k ≡ (member members k || among b (i + 1) k)
+members-next members now after b i before one k = one k ∙ (rw (before k) (or-assoc (member members k) (among b i k) (eqb (b + i) k) ∙ ap (λ (t : Bool). member members k || t) (sym more))) where
   more : among b (i + 1) k ≡ (among b i k || eqb (b + i) k)
   more =
       both-ways (among b (i + 1) k) (among b i k || eqb (b + i) k)

@@ -1,26 +1,29 @@
 -- Refusal 11, block by block, is found entry by entry: a block gains something exactly if some entry gives it. What is left of 11, and 12, is found by the set of
 -- the blocks that the entries execute.
-use mathlib.Core.Bool.{Bool, true, false, not, _&&_, _||_, and-false, or-false, or-assoc}
+use mathlib.Core.Bool.{Bool, true, false, cond, not, _&&_, _||_, and-false, or-false, or-assoc}
 use mathlib.Core.List.{List}
 use mathlib.Core.Logic.{_⊎_, inl, inr, ⊎-elim}
 use mathlib.Core.Path.{_≡_, refl, sym, _∙_, ap}
-use Prim.Native.Nat.{ℕ, _+_, _-_, _*_, _<_, _≤_}
+use Prim.Native.Nat.{ℕ, zero, suc, _+_, _-_, _*_, _<_, _≤_}
 use native.Mathlib.Omega.{arith}
-use lib.ListN.{replicate}
-use borrow.Author.Tests.{lt-ltb, ltb-true}
-use Rattle.words.specs.Bounded.{above, among, any}
-use Rattle.words.proofs.Bounded.{both-ways, or-left, or-right, and-both, any-hit, any-found, or-cases, and-true, below-or-above, any-none, any-avoids, any-same, flag-next, among-in, among-within}
+use lib.Dec.{eqb}
+use borrow.Author.Tests.{lt-ltb, le-ltb, ltb-true, eqb-true, not-false}
+use Rattle.words.specs.Bounded.{above, among, any, count}
+use Rattle.words.proofs.Bounded.{false-unless, both-ways, or-left, or-right, and-both, any-hit, any-found, or-cases, and-true, below-or-above, any-none, any-avoids, any-same, flag-next, among-in, among-within}
+use Rattle.words.proofs.Sums.{sum-same, count-none, count-any}
+use Rattle.words.specs.Words.{word, putWord}
+use Rattle.words.proofs.Words.{Bytes, putWord-self}
 use Rattle.entries.specs.Entries.{Entry, Level, coverFirst, coverBlocks, covers}
-use Rattle.rules.specs.Store.{Store, blocks, base, Counter, writable, executable, counter, someBlock, someRegionBlock}
-use Rattle.rules.specs.Signature.{signedBlock}
+use Rattle.rules.specs.Store.{ledgerHeadBytes, ledgerRecordBytes, Store, blocks, base, recordWord, putRecordWord, markWord, markValue, markBlocks, Counter, writable, executable, counter, someBlock, someRegionBlock}
+use Rattle.rules.specs.Signature.{unknown}
 use Rattle.rules.specs.Tables.{grants, gives, gain, astray}
+use Rattle.rules.specs.General.{hashedBlocks}
 use Rattle.rules.specs.Create.{misplaced, clash, clashes, unsigned}
 use Rattle.rules.proofs.Gains.{gives-within, gives-at, grants-place, gain-any, gain-hit, gain-found}
 use Rattle.rules.proofs.State.{some-block-hit, some-block-found}
 use Rattle.rules.proofs.Walk.{cover-within}
-use Rattle.validation.specs.Marks.{marked, meetsMarked, markedUnsigned}
+use Rattle.validation.specs.Sets.{member, InRegionOnly, AllGathered, meetsMembers, memberUnknown, memberHashed, Admitted}
 use Rattle.validation.specs.Tests.{meets, meetsCount}
-use Rattle.validation.proofs.Bits.{none-marked}
 use Rattle.validation.proofs.Covers.{given-inside, misplaced-astray}
 
 -- Tests of adjacent blocks
@@ -179,64 +182,109 @@ module _ (s : Store) (m : ℕ) (e : ℕ → Entry) where
 
   -- A set of the blocks that the entries execute
 
-  module _ (marks : List ℕ) (executed : (k : ℕ) → k < blocks s → marked marks k ≡ any m (λ i. gives executable (e i) (base s + k))) where
-    marked-is : (k : ℕ) → k < blocks s → marked marks k ≡ above (gain m e executable (base s + k)) 0
-    marked-is k l = executed k l ∙ sym (gain-any m e executable (base s + k))
+  module _ (members : List ℕ) (executed : (k : ℕ) → k < blocks s → member members k ≡ any m (λ i. gives executable (e i) (base s + k))) where
+    member-is : (k : ℕ) → k < blocks s → member members k ≡ above (gain m e executable (base s + k)) 0
+    member-is k l = executed k l ∙ sym (gain-any m e executable (base s + k))
 
-    meets-marked-is : (d : Entry) → astray (base s) (blocks s) d ≡ false → meetsMarked (s .ledger) marks d ≡ meetsEntry m e d
-    unfolding meetsMarked meetsEntry
-    meets-marked-is d placed = go (grants writable d) refl where
-      go : (t : Bool) → grants writable d ≡ t → meetsMarked (s .ledger) marks d ≡ meetsEntry m e d
+    meets-members-is : (d : Entry) → astray (base s) (blocks s) d ≡ false → meetsMembers (s .ledger) members d ≡ meetsEntry m e d
+    unfolding meetsMembers meetsEntry
+    meets-members-is d placed = go (grants writable d) refl where
+      go : (t : Bool) → grants writable d ≡ t → meetsMembers (s .ledger) members d ≡ meetsEntry m e d
       go false g = rw g refl
       go true g =
           let (low, high) = cover-within (base s) (blocks s) d (grants-place writable d g) placed in
           rw g
-          (some-block-same (coverFirst d) (coverBlocks d) (λ b. marked marks (b - base s)) (λ b. above (gain m e executable b) 0)
-          (λ b lo hi. let is : base s + (b - base s) ≡ b = omega arith in rw is at (marked-is (b - base s) (omega arith))))
+          (some-block-same (coverFirst d) (coverBlocks d) (λ b. member members (b - base s)) (λ b. above (gain m e executable b) 0)
+          (λ b lo hi. let is : base s + (b - base s) ≡ b = omega arith in rw is at (member-is (b - base s) (omega arith))))
 
-    clash-marked : any m (λ i. meetsCount (s .ledger) (e i)) ≡ false → ((i : ℕ) → i < m → astray (base s) (blocks s) (e i) ≡ false)
-        → any m (λ i. meetsMarked (s .ledger) marks (e i)) ≡ someRegionBlock s (clashes s m e)
-    clash-marked f placed =
-        any-same (λ i. meetsMarked (s .ledger) marks (e i)) (λ i. meetsEntry m e (e i)) m (λ i l. meets-marked-is (e i) (placed i l)) ∙ sym (clash-met placed f)
+    clash-members : any m (λ i. meetsCount (s .ledger) (e i)) ≡ false → ((i : ℕ) → i < m → astray (base s) (blocks s) (e i) ≡ false)
+        → any m (λ i. meetsMembers (s .ledger) members (e i)) ≡ someRegionBlock s (clashes s m e)
+    clash-members f placed =
+        any-same (λ i. meetsMembers (s .ledger) members (e i)) (λ i. meetsEntry m e (e i)) m (λ i l. meets-members-is (e i) (placed i l)) ∙ sym (clash-met placed f)
 
-    unsigned-marked : (golden : List ℕ) → any (blocks s) (markedUnsigned golden s marks) ≡ someRegionBlock s (unsigned golden s m e)
-    unfolding markedUnsigned someBlock
-    unsigned-marked golden =
-        any-same (markedUnsigned golden s marks) (λ k. unsigned golden s m e (base s + k)) (blocks s)
-        (λ k l. ap (λ (t : Bool). t && not (signedBlock golden (base s) (s .memory) (base s + k))) (marked-is k l))
+    unknown-members : (golden : List ℕ) → any (blocks s) (memberUnknown golden s members) ≡ someRegionBlock s (unsigned golden s m e)
+    unfolding memberUnknown someBlock
+    unknown-members golden =
+        any-same (memberUnknown golden s members) (λ k. unsigned golden s m e (base s + k)) (blocks s)
+        (λ k l. ap (λ (t : Bool). t && unknown golden s (base s + k)) (member-is k l))
 
-  -- a set that was empty before they joined it
-  module _ (size : ℕ) (marks : List ℕ) (room : blocks s ≤ 8 * size) (joined : (k : ℕ) → marked marks k ≡ (marked (replicate size 0) k || any m (λ i. gives executable (e i) (base s + k)))) where
-    just-executed : (k : ℕ) → k < blocks s → marked marks k ≡ any m (λ i. gives executable (e i) (base s + k))
-    just-executed k l = joined k ∙ (rw (none-marked size k (omega arith)) refl)
+    hashed-members : count (blocks s) (memberHashed (s .ledger) members) ≡ hashedBlocks s m e
+    unfolding hashedBlocks memberHashed
+    hashed-members =
+        sum-same _ _ (blocks s) (λ k l.
+        let is : base s + k - base s ≡ k = omega arith in
+        rw (member-is k l, is) refl)
+
+  -- the set that a look at the entries gathered
+  module _ (members : List ℕ) {writes : ℕ} (gathered : AllGathered s m e members writes) where
+    just-executed : (k : ℕ) → k < blocks s → member members k ≡ any m (λ i. gives executable (e i) (base s + k))
+    just-executed k l = gathered .joined k
+
+    -- no block behind the region's last is in it
+    pub gathered-inside : ((i : ℕ) → i < m → astray (base s) (blocks s) (e i) ≡ false) → InRegionOnly s members
+    gathered-inside placed b beyond =
+        gathered .joined b ∙ any-avoids (λ i. gives executable (e i) (base s + b)) m (λ i l.
+        false-unless (gives executable (e i) (base s + b)) (λ g. let (lo, hi) = given-inside (base s) (blocks s) executable (e i) (base s + b) (placed i l) g in omega arith))
+
+    -- without an entry that writes, none meets it
+    pub none-meets-members : writes ≡ 0 → false ≡ any m (λ i. meetsMembers (s .ledger) members (e i))
+    unfolding meetsMembers
+    none-meets-members z =
+        sym (any-avoids (λ i. meetsMembers (s .ledger) members (e i)) m (λ i l. rw (any-none (λ i. grants writable (e i)) m (gathered .none-writes z) i l) refl))
 
     pub clash-found : any m (λ i. meetsCount (s .ledger) (e i)) ≡ false → ((i : ℕ) → i < m → astray (base s) (blocks s) (e i) ≡ false)
-        → {t r : Bool} → r ≡ any m (λ i. meetsMarked (s .ledger) marks (e i)) → r ≡ t → someRegionBlock s (clashes s m e) ≡ t
-    clash-found f placed q h = sym (clash-marked marks just-executed f placed) ∙ sym q ∙ h
+        → {t r : Bool} → r ≡ any m (λ i. meetsMembers (s .ledger) members (e i)) → r ≡ t → someRegionBlock s (clashes s m e) ≡ t
+    clash-found f placed q h = sym (clash-members members just-executed f placed) ∙ sym q ∙ h
 
-    pub unsigned-found : (golden : List ℕ) {t r : Bool} → r ≡ any (blocks s) (markedUnsigned golden s marks) → r ≡ t → someRegionBlock s (unsigned golden s m e) ≡ t
-    unsigned-found golden q h = sym (unsigned-marked marks just-executed golden) ∙ sym q ∙ h
+    pub unsigned-found : (golden : List ℕ) {t r : Bool} → r ≡ any (blocks s) (memberUnknown golden s members) → r ≡ t → someRegionBlock s (unsigned golden s m e) ≡ t
+    unsigned-found golden q h = sym (unknown-members members just-executed golden) ∙ sym q ∙ h
+
+    pub admitted : {k : ℕ} → k ≡ count (blocks s) (memberHashed (s .ledger) members) → Admitted s m e members k
+    admitted h = record { gathered = member-is members just-executed; counted = h ∙ hashed-members members just-executed }
+
+    -- where no entry executes, nothing is hashed
+    pub admitted-none : any m (λ i. grants executable (e i)) ≡ false → {k : ℕ} → k ≡ 0 → Admitted s m e members k
+    unfolding hashedBlocks
+    admitted-none none h =
+        let idle : (b : ℕ) → above (gain m e executable b) 0 ≡ false = λ b. rw (none-executed m e none b) refl in
+        record { gathered = member-is members just-executed; counted = h ∙ sym (count-none _ (blocks s) (λ b l. rw (idle (base s + b)) refl)) }
 
 -- The blocks that an entry executes join a set
 
-module _ (marks : List ℕ) (B : ℕ) (e : Entry) (k : ℕ) where
-  pub executed-joins : (now : List ℕ) → grants executable e ≡ true → B ≤ coverFirst e → marked now k ≡ (marked marks k || among (coverFirst e - B) (coverBlocks e) k) → marked now k ≡ (marked marks k || gives executable e (B + k))
+module _ (members : List ℕ) (B : ℕ) (e : Entry) (k : ℕ) where
+  pub executed-joins : (now : List ℕ) → grants executable e ≡ true → B ≤ coverFirst e → member now k ≡ (member members k || among (coverFirst e - B) (coverBlocks e) k) → member now k ≡ (member members k || gives executable e (B + k))
   unfolding gives covers
   executed-joins now g low h =
-      h ∙ ap (λ (t : Bool). marked marks k || t)
+      h ∙ ap (λ (t : Bool). member members k || t)
       (rw g
       (both-ways (among (coverFirst e - B) (coverBlocks e) k) (among (coverFirst e) (coverBlocks e) (B + k))
       (λ t. let (lo, hi) = among-within (coverFirst e - B) (coverBlocks e) k t in among-in (coverFirst e) (coverBlocks e) (B + k) (omega arith) (omega arith))
       (λ t. let (lo, hi) = among-within (coverFirst e) (coverBlocks e) (B + k) t in among-in (coverFirst e - B) (coverBlocks e) k (omega arith) (omega arith))))
 
-  pub none-joins : grants executable e ≡ false → marked marks k ≡ (marked marks k || gives executable e (B + k))
+  pub none-joins : grants executable e ≡ false → member members k ≡ (member members k || gives executable e (B + k))
   unfolding gives
-  none-joins g = rw g (sym (or-false (marked marks k)))
-
--- those of one entry after the other
-pub joins-next : (p : ℕ → Bool) (i : ℕ) (h : Bool) {f g : Bool} → g ≡ (h || any i p) → f ≡ (g || p i) → f ≡ (h || any (i + 1) p)
-joins-next p i h before one = one ∙ (rw before (or-assoc h (any i p) (p i) ∙ ap (λ (t : Bool). h || t) (flag-next p i refl refl)))
+  none-joins g = rw g (sym (or-false (member members k)))
 
 -- 10 does not apply: the entries' places are in the region
 pub all-placed : (v : Level) (s : Store) (p m : ℕ) (e : ℕ → Entry) → any m (λ i. misplaced v s p (e i)) ≡ false → (i : ℕ) → i < m → astray (base s) (blocks s) (e i) ≡ false
 all-placed v s p m e none i l = misplaced-astray v s p (e i) (any-none (λ i. misplaced v s p (e i)) m none i l)
+
+-- a block that is marked stays as it is when it is marked again
+put-again : (led : List ℕ) (b : ℕ) → Bytes led → eqb (recordWord led markWord b) markValue ≡ true → putRecordWord led markWord b markValue ≡ led
+unfolding recordWord putRecordWord
+put-again led b bytes e = ap (putWord led (ledgerHeadBytes + ledgerRecordBytes * b + 4 * markWord)) (sym (eqb-true (word led (ledgerHeadBytes + ledgerRecordBytes * b + 4 * markWord)) markValue e)) ∙ putWord-self led _ bytes
+
+-- where all blocks of a set are marked, marking them changes nothing
+module _ (led members : List ℕ) (bytes : Bytes led) where
+  mark-again : (n : ℕ) (t : Bool) → (t && not (eqb (recordWord led markWord n) markValue)) ≡ false → led ≡ cond t (putRecordWord led markWord n markValue) led
+  mark-again n true h = sym (put-again led n bytes (not-false (eqb (recordWord led markWord n) markValue) h))
+  mark-again n false h = refl
+
+  mark-all-again : (n : ℕ) → ((k : ℕ) → k < n → memberHashed led members k ≡ false) → led ≡ markBlocks led n (member members)
+  unfolding markBlocks memberHashed
+  mark-all-again zero h = refl
+  mark-all-again (suc n) h = mark-again n (member members n) (h n (omega arith)) ∙ ap (λ (l : List ℕ). cond (member members n) (putRecordWord l markWord n markValue) l) (mark-all-again n (λ k l. h k (omega arith)))
+
+  pub mark-idle : (n : ℕ) → 0 ≡ count n (memberHashed led members) → led ≡ markBlocks led n (member members)
+  mark-idle n none =
+      mark-all-again n (any-none (memberHashed led members) n (sym (count-any (memberHashed led members) n) ∙ le-ltb 0 (count n (memberHashed led members)) (omega arith)))

@@ -1,4 +1,5 @@
 pub mod Bits
 pub mod Clashes
 pub mod Covers
+pub mod Hashing
 pub mod Surveys

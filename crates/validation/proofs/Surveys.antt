@@ -1,25 +1,27 @@
 -- What is found of a table is the greatest of what is found of its entries; and what it decides.
-use mathlib.Core.Bool.{Bool, true, false, _||_}
+use mathlib.Core.Bool.{Bool, true, false, cond, _||_}
 use mathlib.Core.List.{List}
 use mathlib.Core.Logic.{_≢_}
 use mathlib.Core.Path.{_≡_, refl, sym, _∙_, ap}
 use Prim.Native.Nat.{ℕ, _+_, _<_}
 use native.Mathlib.Omega.{arith}
-use borrow.Author.Tests.{le-ltb}
+use lib.Dec.{ltb}
+use borrow.Author.Tests.{le-ltb, ltb-true, ltb-false}
 use Rattle.words.specs.Bounded.{any}
-use Rattle.words.proofs.Bounded.{any-hit, any-found, flag-next}
+use Rattle.words.proofs.Bounded.{any-hit, any-found, any-step, flag-next}
 use Rattle.entries.specs.Entries.{Entry, fault, Level, isFault, isUnaccepted, isLink, rights, placeBlocks}
 use Rattle.entries.specs.Rights.{allows}
 use Rattle.rules.specs.Create.{misplaced, unfitLink, unfitWrite}
 use Rattle.rules.specs.Store.{Store, blocks, base, Counter, writable, executable, linked, someCounter}
-use Rattle.rules.specs.Tables.{grants, astray}
+use Rattle.rules.specs.Tables.{grants, gives, astray}
 use Rattle.rules.proofs.Gains.{fault-is}
 use Rattle.rules.proofs.State.{no-counter}
 use Rattle.ledger.proofs.Judge.{Decides, here, past, none}
 use Rattle.validation.specs.Findings.{greater, finding, entryFinding, targetFinding, newFinding, placeFinding, oldFinding}
 use Rattle.validation.specs.Pieces.{executedEntries, newEntries, oldEntries}
+use Rattle.validation.specs.Sets.{Gathered, AllGathered, EmptySet}
 use Rattle.validation.specs.Tests.{meets, meetsCount}
-use Rattle.validation.proofs.Clashes.{clash-counted, clash-none, unsigned-none, all-placed}
+use Rattle.validation.proofs.Clashes.{clash-counted, clash-none, unsigned-none, all-placed, none-joins}
 
 -- Findings
 
@@ -50,6 +52,20 @@ greater-finding false false false false false true c′ d′ = refl
 greater-finding false false false false false false true d′ = refl
 greater-finding false false false false false false false true = refl
 greater-finding false false false false false false false false = refl
+
+-- neither of two numbers is above the greater
+module _ (x y bound : ℕ) (small : greater x y < bound) where
+  pub greater-first : x < bound
+  greater-first = go (ltb x y) refl small where
+    go : (t : Bool) → ltb x y ≡ t → cond t y x < bound → x < bound
+    go true e l = omega (arith, ltb-true x y e)
+    go false e l = l
+
+  pub greater-second : y < bound
+  greater-second = go (ltb x y) refl small where
+    go : (t : Bool) → ltb x y ≡ t → cond t y x < bound → y < bound
+    go true e l = l
+    go false e l = omega (arith, ltb-false x y e)
 
 -- what each of them says
 is-4 : (a b c d : Bool) → finding a b c d ≡ 4 → a ≡ true
@@ -93,6 +109,15 @@ unfolding finding
 not-1 true n = absurd (n refl)
 not-1 false n = refl
 
+-- none that is a refusal
+pub finding-few : (a b c d : Bool) {found : ℕ} → found ≡ finding a b c d → found ≢ 4 → found ≢ 3 → found ≢ 2 → found < 2
+unfolding finding
+finding-few true b c d e n4 n3 n2 = absurd (n4 e)
+finding-few false true c d e n4 n3 n2 = absurd (n3 e)
+finding-few false false true d e n4 n3 n2 = absurd (n2 e)
+finding-few false false false true e n4 n3 n2 = omega arith
+finding-few false false false false e n4 n3 n2 = omega arith
+
 -- One entry
 
 no-link : (e : Entry) → grants linked e ≡ false → isLink e ≡ false
@@ -132,6 +157,30 @@ found-fault v s p e found h = sym (least found) ∙ ap (greater found) (of-fault
 
   least : (x : ℕ) → greater x 0 ≡ x
   least x = rw (le-ltb x 0 (omega arith)) refl
+
+-- What a look gathers
+
+-- an entry that grants nothing adds nothing
+pub gathers-nothing : (s : Store) (e : Entry) (members : List ℕ) {w : ℕ} → grants executable e ≡ false → grants writable e ≡ false → Gathered s e members members w w
+gathers-nothing s e members idle silent = record { joins = λ k. none-joins members (base s) e k idle; silent = λ z. (z, silent) }
+
+pub fault-gathers : (s : Store) (e : Entry) (members : List ℕ) {w : ℕ} → isFault e ≡ true → Gathered s e members members w w
+unfolding grants rights allows
+fault-gathers s e members h = rw (fault-is e h) (gathers-nothing s fault members refl refl)
+
+pub idle-gathers : (s : Store) (e : Entry) (members : List ℕ) {w : ℕ} → someCounter (λ c. grants c e) ≡ false → Gathered s e members members w w
+idle-gathers s e members idle = gathers-nothing s e members (no-counter (λ c. grants c e) idle executable) (no-counter (λ c. grants c e) idle writable)
+
+pub gathered-none : (s : Store) (e : ℕ → Entry) (members : List ℕ) (w : ℕ) → EmptySet members → AllGathered s 0 e members w
+unfolding any
+gathered-none s e members w empty = record { joined = empty; none-writes = λ z. refl }
+
+pub gathered-more : (s : Store) (i : ℕ) (e : ℕ → Entry) (members members′ : List ℕ) {w w′ : ℕ} → AllGathered s i e members w → Gathered s (e i) members members′ w w′ → AllGathered s (i + 1) e members′ w′
+gathered-more s i e members members′ before one =
+    record {
+      joined = λ k. flag-next (λ i. gives executable (e i) (base s + k)) i (before .joined k) (one .joins k);
+      none-writes = λ z. let (was, silent) = one .silent z in any-step (λ i. grants writable (e i)) i (before .none-writes was) silent;
+    }
 
 -- All of a table's entries: at one of an unaccepted form, and after one more
 
@@ -218,10 +267,11 @@ module _ (v : Level) (golden : List ℕ) (s : Store) (p m : ℕ) (e : ℕ → En
         rest-1 : found ≡ finding false false false executing
         rest-1 = rest-2 ∙ ap (λ (t : Bool). finding false false t executing) uncounted
 
+        pub none-executes : found ≢ 1 → any m (λ i. grants executable (e i)) ≡ false
+        none-executes h = not-1 executing (λ q. h (rest-1 ∙ q))
+
         pub new-none : found ≢ 1 → Decides (newEntries v golden s p m e) 0
-        new-none h =
-            let none-executes = not-1 executing (λ q. h (rest-1 ∙ q)) in
-            new-rest (past (clash-none s m e placed-all uncounted none-executes) (past (unsigned-none s m e golden none-executes) none))
+        new-none h = new-rest (past (clash-none s m e placed-all uncounted (none-executes h)) (past (unsigned-none s m e golden (none-executes h)) none))
 
 module _ (s : Store) (m : ℕ) (e : ℕ → Entry) {found : ℕ} (is : found ≡ oldFinding (base s) (blocks s) m e) where
   abbrev badly : Bool

@@ -2,4 +2,4 @@ pub mod Tests
 pub mod Needs
 pub mod Pieces
 pub mod Findings
-pub mod Marks
+pub mod Sets

@@ -17,28 +17,54 @@ ghost use Rattle.rules.specs.Store.{lent};
 ghost use Rattle.ledger.specs.Needs.{Fits};
 ghost use Rattle.validation.specs.Findings.{entryFinding, greater, newFinding, oldFinding, placeFinding};
 ghost use Rattle.validation.specs.Needs.{HoldsWords};
+ghost use Rattle.validation.specs.Sets.{AllGathered, EmptySet, Gathered, WholeSet};
 ghost use Rattle.validation.specs.Tests.{entryFrom};
 
 // The greater of what was found before and what is found of one more entry, of a table that is created at a block. Faults, which fill most tables, are told first.
-fn found_with(level: Level, memory: &[u8], ledger: &[u8], block: u32, found: u32, e: Entry) -> u32
-    requires { ⌜ Fits (now memory) (now ledger) ⌝ }
+fn found_with(
+    level: Level,
+    memory: &[u8],
+    ledger: &[u8],
+    members: &mut [u8],
+    writes: &mut u32,
+    block: u32,
+    found: u32,
+    e: Entry,
+) -> u32
+    requires { ⌜ Fits (now memory) (now ledger) × WholeSet (now members) ⌝ }
     ensures { λ r. ⌜ r ≡ greater found (entryFinding (levelOf level) (lent (now (memory .entry)) (now (ledger .entry))) block (meaning e)) ⌝ }
+    ensures { λ r. ⌜ (r < 2 → Gathered (lent (now (memory .entry)) (now (ledger .entry))) (meaning e) (now (members .entry)) (now (members .exit)) (now (writes .entry)) (now (writes .exit))) ⌝ }
 {
     if is_fault(e) {
         return found;
     }
-    greater(found, entry_finding(level, memory, ledger, block, e))
+    greater(
+        found,
+        entry_finding(level, memory, ledger, members, writes, block, e),
+    )
 }
 
-// Of a table that is created at a block.
-pub fn survey_new(level: Level, memory: &[u8], ledger: &[u8], block: u32, j: usize, m: usize) -> u32
+// Of a table that is created at a block. Where nothing is held against its entries, the blocks that they execute are in the set, empty before, and
+// whether some entry writes is noted.
+pub fn survey_new(
+    level: Level,
+    memory: &[u8],
+    ledger: &[u8],
+    members: &mut [u8],
+    writes: &mut u32,
+    block: u32,
+    j: usize,
+    m: usize,
+) -> u32
     requires { ⌜ Fits (now memory) (now ledger) × HoldsWords (now memory) j m ⌝ }
+    requires { ⌜ WholeSet (now members) × EmptySet (now members) ⌝ }
     ensures { λ r. ⌜ r ≡ newFinding (levelOf level) (lent (now (memory .entry)) (now (ledger .entry))) block m (entryFrom (levelOf level) (now (memory .entry)) j) ⌝ }
+    ensures { λ r. ⌜ (r < 2 → AllGathered (lent (now (memory .entry)) (now (ledger .entry))) m (entryFrom (levelOf level) (now (memory .entry)) j) (now (members .exit)) (now (writes .exit))) ⌝ }
 {
     let mut found = FINE;
     for i in 0..m {
         let e = entry_at(level, memory, j + i);
-        found = found_with(level, memory, ledger, block, found, e);
+        found = found_with(level, memory, ledger, members, writes, block, found, e);
         if found == UNACCEPTED {
             return UNACCEPTED;
         }

@@ -1,0 +1,42 @@
+-- The invariant: no entry passed writes a block of the set.
+use Prim.Native.Nat.{_-_}
+use native.Mathlib.Omega.{arith}
+use Rattle.words.proofs.Bounded.{told, Scanned, scan-start, scan-next, scan-found, scan-end}
+use Rattle.entries.specs.Meaning.{levelOf}
+use Rattle.validation.specs.Sets.{meetsMembers}
+use Rattle.validation.specs.Tests.{entryFrom}
+use Rattle.validation.proofs.executed.some_meets_members.Statement.{statement}
+use Rattle.validation.proofs.executed.some_meets_members.Tie as tie
+
+abbrev Inv-loop : tie.InvT-loop
+Inv-loop level memory ledger members j m i₀ i = Scanned (λ x. meetsMembers ledger members (entryFrom (levelOf level) memory j x)) m i
+
+abbrev μ-loop : tie.MeasureT-loop
+μ-loop level memory ledger members j m i₀ i = m - i
+
+loop-holds : tie.Need-loop-holds Inv-loop μ-loop
+loop-holds c = scan-start _ _
+
+add-entry-at : tie.Need-add-entry-at Inv-loop μ-loop
+add-entry-at c = omega (arith, c .before .before .before .before .before .pre .0 .holds)
+
+entry-at-requires : tie.Need-entry-at-requires Inv-loop μ-loop
+entry-at-requires c κs = omega (arith, c .before .before .before .before .before .pre .0 .holds)
+
+meets-members-requires : tie.Need-meets-members-requires Inv-loop μ-loop
+meets-members-requires c κs = ((c .before .before .before .before .before .before .pre .0 .fits, rw (c .entry-at .ensures) (c .before .before .before .before .before .before .pre .0 .placed (c .before .before .loop .i) (omega arith))), c .before .before .before .before .before .before .pre .1)
+
+returns : tie.Need-returns Inv-loop μ-loop
+returns c = scan-found _ _ (c .before .before .before .before .loop .i) (omega arith) (told (rw (c .before .before .entry-at .ensures) at (c .before .meets-members .ensures)) (c .if1 .taken))
+
+loop-again : tie.Need-loop-again Inv-loop μ-loop
+loop-again c = scan-next _ _ _ (c .before .before .before .before .loop .inv) (omega arith) (told (rw (c .before .before .entry-at .ensures) at (c .before .meets-members .ensures)) (c .if1 .left))
+
+returns-2 : tie.Need-returns-2 Inv-loop μ-loop
+returns-2 c = scan-end _ _ _ (c .before .loop .inv) (omega arith)
+
+pub some-meets-members-spec : {M : Type 1} → statement M
+some-meets-members-spec =
+    tie.close
+    (tie.spec Inv-loop μ-loop loop-holds add-entry-at entry-at-requires meets-members-requires returns
+    (λ c. omega arith) (λ c. omega arith) loop-again returns-2)
