@@ -19,7 +19,7 @@ use Rattle.rules.specs.General.{Change, added, removed, endValue, endsBelow, ov
 use Rattle.rules.proofs.Gains.{gives-within, gives-at, grants-place, gain-more, gain-hit, gain-none, gain-found}
 use Rattle.rules.proofs.State.{fits, some-block-hit, some-block-found, no-block-at, no-counter, some-counter-found, some-counter-hit}
 use Rattle.rules.proofs.Walk.{cover-within}
-use Rattle.rules.proofs.Changes.{counter-at, end, length-recounted, head-recounted, type-recounted, counter-recounted}
+use Rattle.rules.proofs.Changes.{counter-at, end, length-recounted, head-recounted, type-recounted, mark-recounted, counter-recounted}
 use Rattle.ledger.specs.Counters.{beyond, counterBeyond, blocksBeyond, entryBeyond, leastBefore}
 use Rattle.ledger.specs.Needs.{Fits, Changeable, Countable}
 use Rattle.ledger.proofs.Records.{recordWord-bound, bytes-recount, ledger-ext}
@@ -223,6 +223,7 @@ module _ (d : Change) (s : Store) (e : ℕ → Entry) (length-is : length (s .le
       (λ c b l.
       let is : end (opposite d) (counted i) i e c b ≡ recordWord (s .ledger) (counterWord c) b = rw (base-counted i, record-counted i st c b l) (storable-back d _ (gain i e c (base s + b)) (small c b) (st c b l) .1) in
       counter-recounted (opposite d) (counted i) i e (length-recounted d s i e ∙ length-is) c b l (rw is (small c b)) ∙ is)
+      (λ b l. mark-recounted (opposite d) (counted i) i e b ∙ mark-recounted d s i e b)
 
 -- at the end only the counters that were taken from are left to judge
 within-limit : (s : Store) (m : ℕ) (e : ℕ → Entry) → Roomy added s m e → someOverrun added s m e ≡ false

@@ -1,3 +1,4 @@
+pub mod Admitting
 pub mod Clearing
 pub mod Counting
 pub mod TableRecords

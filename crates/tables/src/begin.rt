@@ -1,4 +1,4 @@
-// Begin: a region starts, with no tables and no counts (RULES: begin).
+// Begin: a region starts, with no tables, no counts and no marks (RULES: begin).
 use ledger::layout::EXECUTABLE;
 use ledger::layout::LINKED;
 use ledger::layout::NO_TABLE;
@@ -8,6 +8,7 @@ use ledger::layout::WRITABLE;
 use ledger::layout::put_active;
 use ledger::layout::put_base;
 use ledger::layout::put_record_word;
+use ledger::marks::clear_mark;
 use ledger::refusals::ACCEPTED;
 use ledger::refusals::MISFIT;
 use ledger::region::blocks;
@@ -15,25 +16,26 @@ use ledger::region::is_misfit;
 ghost use mathlib.Core.Path.{_≡_};
 ghost use Prim.Native.Nat.{_+_};
 ghost use Rattle.rules.specs.Begin.{beginOutcome};
-ghost use Rattle.rules.specs.Store.{lent, putCounters, putRecordWord, recount, retype, typeWord};
+ghost use Rattle.rules.specs.Store.{clearMark, clearMarks, lent, putCounters, putRecordWord, recount, retype, typeWord};
 ghost use Rattle.rules.specs.Tables.{typeD};
 ghost use Rattle.ledger.specs.Needs.{InLedger};
 
-// The record of block b has type D and no counts.
+// The record of block b has type D, no counts and no mark.
 fn clear_record(ledger: &mut [u8], b: usize)
     requires { ⌜ InLedger (now ledger) (b + 1) ⌝ }
-    ensures { λ r. ⌜ now (ledger .exit) ≡ putCounters (putRecordWord (now (ledger .entry)) typeWord b typeD) b (λ c. 0) ⌝ }
+    ensures { λ r. ⌜ now (ledger .exit) ≡ clearMark (putCounters (putRecordWord (now (ledger .entry)) typeWord b typeD) b (λ c. 0)) b ⌝ }
 {
     put_record_word(ledger, TYPE, b, TYPE_D);
     put_record_word(ledger, WRITABLE, b, 0);
     put_record_word(ledger, EXECUTABLE, b, 0);
     put_record_word(ledger, LINKED, b, 0);
+    clear_mark(ledger, b);
 }
 
 // So have the records of the first n blocks.
 fn clear_records(ledger: &mut [u8], n: usize)
     requires { ⌜ InLedger (now ledger) n ⌝ }
-    ensures { λ r. ⌜ now (ledger .exit) ≡ recount (retype (now (ledger .entry)) 0 n typeD) n (λ c b. 0) ⌝ }
+    ensures { λ r. ⌜ now (ledger .exit) ≡ clearMarks (recount (retype (now (ledger .entry)) 0 n typeD) n (λ c b. 0)) 0 n ⌝ }
 {
     for b in 0..n {
         clear_record(ledger, b);

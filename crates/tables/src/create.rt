@@ -1,4 +1,4 @@
-// Create: blocks become a table, and its entries are counted (RULES: create).
+// Create: blocks become a table, its entries are counted, and what they execute is marked (RULES: create).
 use crate::count::change_table;
 use crate::own::first_word;
 use crate::own::is_counted;
@@ -10,19 +10,36 @@ use ledger::refusals::ACCEPTED;
 use ledger::refusals::IN_USE;
 use ledger::refusals::MISFIT;
 use ledger::refusals::OVERRUN;
+use ledger::region::blocks;
 use ledger::region::is_misfit_stored;
 use ledger::table::table_entries;
 use ledger::table::table_refusal;
+use validation::executed::admit_members;
 use validation::refusal::new_entries_refusal;
+use validation::set::SET_BYTES;
 ghost use mathlib.Core.Path.{_≡_};
 ghost use Rattle.entries.specs.Meaning.{levelOf};
 ghost use Rattle.rules.specs.Create.{createOutcome};
 ghost use Rattle.rules.specs.Refusals.{answerOf};
 ghost use Rattle.rules.specs.Store.{lent};
+ghost use Rattle.rules.specs.Tables.{tableEntries, tableEntry};
+ghost use Rattle.validation.specs.Sets.{Admitted, EmptySet, WholeSet};
 ghost use Rattle.tables.specs.Pieces.{createJudged};
 
-fn create_refusal(level: Level, memory: &[u8], ledger: &[u8], golden: &[u8], block: u32) -> u32
+// All refusals but 13. If none applies, the set, empty before, is that of the blocks that the entries execute, and those that are not marked are
+// counted.
+fn create_refusal(
+    level: Level,
+    memory: &[u8],
+    ledger: &[u8],
+    golden: &[u8],
+    members: &mut [u8],
+    hashed: &mut u32,
+    block: u32,
+) -> u32
+    requires { ⌜ WholeSet (now members) × EmptySet (now members) × (now hashed ≡ 0) ⌝ }
     ensures { λ r. ⌜ r ≡ answerOf (createJudged (levelOf level) (now (golden .entry)) (lent (now (memory .entry)) (now (ledger .entry))) block) ⌝ }
+    ensures { λ r. ⌜ (r ≡ 0 → Admitted (lent (now (memory .entry)) (now (ledger .entry))) (tableEntries (levelOf level)) (tableEntry (levelOf level) (lent (now (memory .entry)) (now (ledger .entry))) block) (now (members .exit)) (now (hashed .exit))) ⌝ }
 {
     if is_misfit_stored(memory, ledger) {
         return MISFIT;
@@ -40,19 +57,41 @@ fn create_refusal(level: Level, memory: &[u8], ledger: &[u8], golden: &[u8], blo
     }
     let j = first_word(ledger, block);
     let m = table_entries(level) as usize;
-    new_entries_refusal(level, memory, ledger, golden, block, j, m)
+    new_entries_refusal(level, memory, ledger, golden, members, hashed, block, j, m)
 }
 
-pub fn create(level: Level, memory: &[u8], ledger: &mut [u8], golden: &[u8], block: u32) -> u32
+// The types of its blocks, the counts of its entries, and the marks of what they execute (create leaves).
+pub fn create(
+    level: Level,
+    memory: &[u8],
+    ledger: &mut [u8],
+    golden: &[u8],
+    block: u32,
+    hashed: &mut u32,
+) -> u32
     ensures { λ r. ⌜ r ≡ createOutcome (levelOf level) (now (golden .entry)) (lent (now (memory .entry)) (now (ledger .entry))) block .answer ⌝ }
+    ensures { λ r. ⌜ now (hashed .exit) ≡ createOutcome (levelOf level) (now (golden .entry)) (lent (now (memory .entry)) (now (ledger .entry))) block .hashed ⌝ }
     ensures { λ r. ⌜ lent (now (memory .entry)) (now (ledger .exit)) ≡ createOutcome (levelOf level) (now (golden .entry)) (lent (now (memory .entry)) (now (ledger .entry))) block .after ⌝ }
 {
-    let refusal = create_refusal(level, memory, ledger, golden, block);
+    *hashed = 0;
+    let mut members = [0u8; SET_BYTES];
+    let mut number = 0;
+    let refusal = create_refusal(
+        level,
+        memory,
+        ledger,
+        golden,
+        &mut members,
+        &mut number,
+        block,
+    );
     if refusal != ACCEPTED {
         return refusal;
     }
-    if change_table(Change::Added, level, memory, ledger, block) {
-        return ACCEPTED;
+    if !change_table(Change::Added, level, memory, ledger, block) {
+        return OVERRUN;
     }
-    OVERRUN
+    admit_members(ledger, &members, blocks(memory), number);
+    *hashed = number;
+    ACCEPTED
 }

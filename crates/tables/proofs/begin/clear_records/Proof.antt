@@ -3,20 +3,20 @@ use mathlib.Core.Path.{_≡_, refl, _∙_}
 use Prim.Native.Nat.{_-_, _≤_}
 use native.Mathlib.Omega.{arith}
 use lib.ListN.{length}
-use Rattle.rules.specs.Store.{recount, retype}
+use Rattle.rules.specs.Store.{recount, retype, clearMarks}
 use Rattle.rules.specs.Tables.{typeD}
 use Rattle.tables.proofs.Clearing.{cleared-more}
 use Rattle.tables.proofs.begin.clear_records.Statement.{statement}
 use Rattle.tables.proofs.begin.clear_records.Tie as tie
 
 abbrev Inv-loop : tie.InvT-loop
-Inv-loop ledger₀ n b₀ ledger b = (b ≤ n) × ((length ledger ≡ length ledger₀) × (ledger ≡ recount (retype ledger₀ 0 b typeD) b (λ c i. 0)))
+Inv-loop ledger₀ n b₀ ledger b = (b ≤ n) × ((length ledger ≡ length ledger₀) × (ledger ≡ clearMarks (recount (retype ledger₀ 0 b typeD) b (λ c i. 0)) 0 b))
 
 abbrev μ-loop : tie.MeasureT-loop
 μ-loop ledger₀ n b₀ ledger b = n - b
 
 loop-holds : tie.Need-loop-holds Inv-loop μ-loop
-unfolding recount retype
+unfolding recount retype clearMarks
 loop-holds c = (omega arith, (refl, refl))
 
 clear-record-requires : tie.Need-clear-record-requires Inv-loop μ-loop
