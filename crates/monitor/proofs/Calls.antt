@@ -1,4 +1,4 @@
--- Lists 7 to 12 hold of every sequence of calls (lists 13): whoever makes them, they leave and hand out what a run of their steps does.
+-- Lists 7 to 12 and 14 hold of every sequence of calls (lists 13): whoever makes them, they leave and hand out what a run of their steps does.
 use mathlib.Core.List.{List, [], _∷_, _++_}
 use mathlib.Core.Path.{_≡_, refl, sym, _∙_, ap}
 use Prim.Native.Nat.{ℕ}
@@ -8,12 +8,12 @@ use Rattle.entries.specs.Entries.{l1, l2}
 use Rattle.rules.specs.Store.{Store}
 use Rattle.rules.specs.Tables.{sections, pages, larges}
 use Rattle.rules.specs.Guest.{reads, fetches, writes}
-use Rattle.rules.specs.Steps.{Step, begins, creates, frees, maps, links, unmaps, switches, accesses, obey, run}
+use Rattle.rules.specs.Steps.{Step, begins, creates, frees, maps, links, unmaps, switches, accesses, forgets, obey, run, runBy}
 use Rattle.rules.specs.Demand3.{storeAt}
 use Rattle.rules.specs.Upheld.{Upholds}
-use Rattle.rules.proofs.Outcomes.{begin-byte, create-byte, free-byte, map-byte, link-byte, unmap-byte, switch-byte, write-byte}
+use Rattle.rules.proofs.Outcomes.{begin-byte, create-byte, free-byte, map-byte, link-byte, unmap-byte, switch-byte, write-byte, forget-byte}
 use Rattle.rules.proofs.Upheld.{run-upholds-demand3}
-use Rattle.monitor.specs.Calls.{Called, pagemon-begin, pagemon-create-l1, pagemon-create-l2, pagemon-free-l1, pagemon-free-l2, pagemon-map-l1, pagemon-map-l2, pagemon-map-large, pagemon-link, pagemon-unmap-l1, pagemon-unmap-l2, pagemon-unmap-large, pagemon-switch, pagemon-read, pagemon-fetch, pagemon-write, Calls, done, call}
+use Rattle.monitor.specs.Calls.{Called, pagemon-begin, pagemon-create-l1, pagemon-create-l2, pagemon-free-l1, pagemon-free-l2, pagemon-map-l1, pagemon-map-l2, pagemon-map-large, pagemon-link, pagemon-unmap-l1, pagemon-unmap-l2, pagemon-unmap-large, pagemon-switch, pagemon-read, pagemon-fetch, pagemon-write, pagemon-forget, Calls, done, call}
 
 -- a call obeys its step
 pub called-obeys : {golden : List ℕ} {s after : Store} {step : Step} {answer byte : ℕ} → Called golden s step after answer byte
@@ -35,18 +35,19 @@ called-obeys (pagemon-switch a l) = (a, (switch-byte _ _, l))
 called-obeys (pagemon-read a b l) = (a, (b, l))
 called-obeys (pagemon-fetch a b l) = (a, (b, l))
 called-obeys (pagemon-write a l) = (a, (write-byte _ _ _, l))
+called-obeys (pagemon-forget a l) = (a, (forget-byte _ _ _, l))
 
 -- a sequence of calls is a run of its steps
 pub calls-run : {golden : List ℕ} {s left : Store} {steps : List Step} {answers bytes : List ℕ} → Calls golden s steps left answers bytes
     → (let r = run golden s steps in (left ≡ r .reached) × ((answers ≡ r .answers) × (bytes ≡ r .bytes)))
-unfolding run
+unfolding runBy
 calls-run done = (refl, (refl, refl))
 calls-run (call c cs) =
     let (a, (b, l)) = called-obeys c in
     let (reached, (said, given)) = rw l at (calls-run cs) in
     (reached, (rw (a, said) refl, rw (b, given) refl))
 
--- the named theorem, lists 13: lists 7 to 12 of exactly what is left and handed out by every sequence of calls, whoever makes them, over whatever was lent
+-- the named theorem, lists 13: lists 7 to 12 and 14 of exactly what is left and handed out by every sequence of calls, whoever makes them, over whatever was lent
 pub calls-uphold-demand3 : {golden : List ℕ} {s left : Store} {steps : List Step} {answers bytes : List ℕ}
     → Calls golden s steps left answers bytes → Upholds golden s steps left answers bytes
 calls-uphold-demand3 {golden} {s} {left} {steps} cs =
@@ -77,9 +78,10 @@ step-called golden s (switches block) = rw (← switch-byte s block) (pagemon-sw
 step-called golden s (accesses reads address) = pagemon-read refl refl refl
 step-called golden s (accesses fetches address) = pagemon-fetch refl refl refl
 step-called golden s (accesses (writes byte) address) = rw (← write-byte byte s address) (pagemon-write refl refl)
+step-called golden s (forgets block count) = rw (← forget-byte s block count) (pagemon-forget refl refl)
 
 -- so there is a sequence of calls for every list of steps: the theorem leaves none out
 pub run-called : (golden : List ℕ) (s : Store) (steps : List Step) → (let r = run golden s steps in Calls golden s steps (r .reached) (r .answers) (r .bytes))
-unfolding run
+unfolding runBy
 run-called golden s [] = done
 run-called golden s (step ∷ steps) = call (step-called golden s step) (run-called golden (obey golden s step .after) steps)

@@ -2,7 +2,7 @@
 use mathlib.Core.List.{List, [], _∷_}
 use mathlib.Core.Path.{_≡_, refl}
 use lib.ListN.{drop}
-use Rattle.rules.specs.Steps.{Step, begins, obey, run, Run}
+use Rattle.rules.specs.Steps.{Step, begins, obey, run, runBy, Run}
 use Rattle.rules.specs.Upheld.{Upheld}
 use Rattle.rules.proofs.SmallStores.{ledger, smallStore}
 use Rattle.rules.proofs.Blank.{golden, begins-zeros, started}
@@ -17,12 +17,12 @@ abbrev sevenRun : Run
 sevenRun = run golden (smallStore 0 ledger) seven
 
 accepted : sevenRun .answers ≡ (0 ∷ 0 ∷ 0 ∷ 0 ∷ 0 ∷ 0 ∷ 0 ∷ [])
-unfolding run obey
+unfolding runBy obey
 accepted = rw (begins-zeros, fetch-accepted) refl
 
 pub seven-calls : Calls golden (smallStore 0 ledger) seven (sevenRun .reached) (0 ∷ 0 ∷ 0 ∷ 0 ∷ 0 ∷ 0 ∷ 0 ∷ []) (sevenRun .bytes)
 seven-calls = rw accepted at (run-called golden (smallStore 0 ledger) seven)
 
 pub seven-upheld : Upheld golden 0 started toFetch (sevenRun .reached) (0 ∷ 0 ∷ 0 ∷ 0 ∷ 0 ∷ 0 ∷ []) (drop 1 (sevenRun .bytes))
-unfolding run obey
+unfolding runBy obey
 seven-upheld = calls-uphold-demand3 seven-calls (smallStore 0 ledger) [] refl 0 0 refl refl

@@ -13,10 +13,11 @@ use Rattle.rules.specs.Link.{linkOutcome}
 use Rattle.rules.specs.Unmap.{unmapOutcome}
 use Rattle.rules.specs.Switch.{switchOutcome}
 use Rattle.rules.specs.Guest.{reads, fetches, writes, guestOutcome}
-use Rattle.rules.specs.Steps.{Step, begins, creates, frees, maps, links, unmaps, switches, accesses}
+use Rattle.rules.specs.Forget.{forgetOutcome}
+use Rattle.rules.specs.Steps.{Step, begins, creates, frees, maps, links, unmaps, switches, accesses, forgets}
 
 -- promises 1, lists 13: one call of an export, lent an image and a store, by its contract: its step, the store afterwards, its answer, and the byte
--- that it gives (0 where it gives none)
+-- that it gives (0 where it gives none); the number of blocks hashed is left out
 pub data Called (golden : List ℕ) (s : Store) : Step → Store → ℕ → ℕ → Type 0 where
   pagemon-begin : {first answer : ℕ} {after : Store} → answer ≡ beginOutcome s first .answer → after ≡ beginOutcome s first .after
       → Called golden s (begins first) after answer 0
@@ -57,6 +58,8 @@ pub data Called (golden : List ℕ) (s : Store) : Step → Store → ℕ → ℕ
   pagemon-write : {address byte answer : ℕ} {after : Store}
       → answer ≡ guestOutcome (writes byte) s address .answer → after ≡ guestOutcome (writes byte) s address .after
       → Called golden s (accesses (writes byte) address) after answer 0
+  pagemon-forget : {block count answer : ℕ} {after : Store} → answer ≡ forgetOutcome s block count .answer → after ≡ forgetOutcome s block count .after
+      → Called golden s (forgets block count) after answer 0
 
 -- lists 3, lists 13: calls in a row from one store to another, each lent what the one before it left, all lent one image, with their answers
 -- and the bytes given

@@ -1,5 +1,5 @@
-// The calls, exported to C (calls 1, forms 7). Their contracts ask nothing of the caller, and equate the answer, the byte and all of memory and ledger
-// with the rules (promises 1).
+// The calls, exported to C (calls 1, forms 7). Their contracts ask nothing of the caller, and equate the answer, the byte or the number that
+// is given, and all of memory and ledger with the rules (promises 1).
 use entries::entry::Level;
 use mapping::form::Form;
 use mapping::request::Request;
@@ -8,6 +8,7 @@ ghost use Rattle.rules.specs.Begin.{beginOutcome};
 ghost use Rattle.entries.specs.Entries.{l1, l2};
 ghost use Rattle.rules.specs.Create.{createOutcome};
 ghost use Rattle.rules.specs.Free.{freeOutcome};
+ghost use Rattle.rules.specs.Forget.{forgetOutcome};
 ghost use Rattle.rules.specs.Guest.{fetches, guestOutcome, reads, writes};
 ghost use Rattle.rules.specs.Link.{linkOutcome};
 ghost use Rattle.rules.specs.Map.{mapOutcome};
@@ -32,11 +33,13 @@ pub extern "C" fn pagemon_create_l1(
     ledger: &mut [u8],
     golden: &[u8],
     block: u32,
+    hashed: &mut u32,
 ) -> u32
     ensures { λ r. ⌜ r ≡ createOutcome l1 (now (golden .entry)) (lent (now (memory .entry)) (now (ledger .entry))) block .answer ⌝ }
+    ensures { λ r. ⌜ now (hashed .exit) ≡ createOutcome l1 (now (golden .entry)) (lent (now (memory .entry)) (now (ledger .entry))) block .hashed ⌝ }
     ensures { λ r. ⌜ lent (now (memory .entry)) (now (ledger .exit)) ≡ createOutcome l1 (now (golden .entry)) (lent (now (memory .entry)) (now (ledger .entry))) block .after ⌝ }
 {
-    tables::create::create(Level::L1, memory, ledger, golden, block)
+    tables::create::create(Level::L1, memory, ledger, golden, block, hashed)
 }
 
 // Create L2: a block becomes an L2 block, with the entries that its bytes hold.
@@ -46,11 +49,13 @@ pub extern "C" fn pagemon_create_l2(
     ledger: &mut [u8],
     golden: &[u8],
     block: u32,
+    hashed: &mut u32,
 ) -> u32
     ensures { λ r. ⌜ r ≡ createOutcome l2 (now (golden .entry)) (lent (now (memory .entry)) (now (ledger .entry))) block .answer ⌝ }
+    ensures { λ r. ⌜ now (hashed .exit) ≡ createOutcome l2 (now (golden .entry)) (lent (now (memory .entry)) (now (ledger .entry))) block .hashed ⌝ }
     ensures { λ r. ⌜ lent (now (memory .entry)) (now (ledger .exit)) ≡ createOutcome l2 (now (golden .entry)) (lent (now (memory .entry)) (now (ledger .entry))) block .after ⌝ }
 {
-    tables::create::create(Level::L2, memory, ledger, golden, block)
+    tables::create::create(Level::L2, memory, ledger, golden, block, hashed)
 }
 
 // Free L1: the table's blocks become data.
@@ -81,8 +86,10 @@ pub extern "C" fn pagemon_map_l1(
     index: u32,
     target: u32,
     rights: u32,
+    hashed: &mut u32,
 ) -> u32
     ensures { λ r. ⌜ r ≡ mapOutcome sections (now (golden .entry)) (lent (now (memory .entry)) (now (ledger .entry))) block index target rights .answer ⌝ }
+    ensures { λ r. ⌜ now (hashed .exit) ≡ mapOutcome sections (now (golden .entry)) (lent (now (memory .entry)) (now (ledger .entry))) block index target rights .hashed ⌝ }
     ensures { λ r. ⌜ lent (now (memory .exit)) (now (ledger .exit)) ≡ mapOutcome sections (now (golden .entry)) (lent (now (memory .entry)) (now (ledger .entry))) block index target rights .after ⌝ }
 {
     let request = Request {
@@ -91,7 +98,7 @@ pub extern "C" fn pagemon_map_l1(
         target,
         rights,
     };
-    mapping::map::map(Form::Sections, memory, ledger, golden, request)
+    mapping::map::map(Form::Sections, memory, ledger, golden, request, hashed)
 }
 
 // Map L2: a page with these rights, at an index of an L2 block.
@@ -104,8 +111,10 @@ pub extern "C" fn pagemon_map_l2(
     index: u32,
     target: u32,
     rights: u32,
+    hashed: &mut u32,
 ) -> u32
     ensures { λ r. ⌜ r ≡ mapOutcome pages (now (golden .entry)) (lent (now (memory .entry)) (now (ledger .entry))) block index target rights .answer ⌝ }
+    ensures { λ r. ⌜ now (hashed .exit) ≡ mapOutcome pages (now (golden .entry)) (lent (now (memory .entry)) (now (ledger .entry))) block index target rights .hashed ⌝ }
     ensures { λ r. ⌜ lent (now (memory .exit)) (now (ledger .exit)) ≡ mapOutcome pages (now (golden .entry)) (lent (now (memory .entry)) (now (ledger .entry))) block index target rights .after ⌝ }
 {
     let request = Request {
@@ -114,7 +123,7 @@ pub extern "C" fn pagemon_map_l2(
         target,
         rights,
     };
-    mapping::map::map(Form::Pages, memory, ledger, golden, request)
+    mapping::map::map(Form::Pages, memory, ledger, golden, request, hashed)
 }
 
 // Map large: a large page of sixteen blocks with these rights, in the sixteen words from an index of an L2 block.
@@ -127,8 +136,10 @@ pub extern "C" fn pagemon_map_large(
     index: u32,
     target: u32,
     rights: u32,
+    hashed: &mut u32,
 ) -> u32
     ensures { λ r. ⌜ r ≡ mapOutcome larges (now (golden .entry)) (lent (now (memory .entry)) (now (ledger .entry))) block index target rights .answer ⌝ }
+    ensures { λ r. ⌜ now (hashed .exit) ≡ mapOutcome larges (now (golden .entry)) (lent (now (memory .entry)) (now (ledger .entry))) block index target rights .hashed ⌝ }
     ensures { λ r. ⌜ lent (now (memory .exit)) (now (ledger .exit)) ≡ mapOutcome larges (now (golden .entry)) (lent (now (memory .entry)) (now (ledger .entry))) block index target rights .after ⌝ }
 {
     let request = Request {
@@ -137,7 +148,7 @@ pub extern "C" fn pagemon_map_large(
         target,
         rights,
     };
-    mapping::map::map(Form::Larges, memory, ledger, golden, request)
+    mapping::map::map(Form::Larges, memory, ledger, golden, request, hashed)
 }
 
 // Link: an L2 table, at an index of an L1 table.
@@ -229,9 +240,23 @@ pub extern "C" fn pagemon_fetch(memory: &[u8], ledger: &[u8], address: u32, byte
 
 // The guest writes a byte at an address.
 #[no_mangle]
-pub extern "C" fn pagemon_write(memory: &mut [u8], ledger: &[u8], address: u32, byte: u32) -> u32
+pub extern "C" fn pagemon_write(
+    memory: &mut [u8],
+    ledger: &mut [u8],
+    address: u32,
+    byte: u32,
+) -> u32
     ensures { λ r. ⌜ r ≡ guestOutcome (writes byte) (lent (now (memory .entry)) (now (ledger .entry))) address .answer ⌝ }
-    ensures { λ r. ⌜ lent (now (memory .exit)) (now (ledger .entry)) ≡ guestOutcome (writes byte) (lent (now (memory .entry)) (now (ledger .entry))) address .after ⌝ }
+    ensures { λ r. ⌜ lent (now (memory .exit)) (now (ledger .exit)) ≡ guestOutcome (writes byte) (lent (now (memory .entry)) (now (ledger .entry))) address .after ⌝ }
 {
     guest::access::write(memory, ledger, address, byte)
+}
+
+// Forget: the marks of adjacent blocks are cleared.
+#[no_mangle]
+pub extern "C" fn pagemon_forget(memory: &[u8], ledger: &mut [u8], block: u32, count: u32) -> u32
+    ensures { λ r. ⌜ r ≡ forgetOutcome (lent (now (memory .entry)) (now (ledger .entry))) block count .answer ⌝ }
+    ensures { λ r. ⌜ lent (now (memory .entry)) (now (ledger .exit)) ≡ forgetOutcome (lent (now (memory .entry)) (now (ledger .entry))) block count .after ⌝ }
+{
+    tables::forget::forget(memory, ledger, block, count)
 }

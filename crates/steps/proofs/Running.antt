@@ -9,7 +9,7 @@ use native.Mathlib.Omega.{arith}
 use lib.ListN.{length, set, length-set}
 use Rattle.words.specs.Lists.{putList}
 use Rattle.rules.specs.Store.{Store}
-use Rattle.rules.specs.Steps.{Step, run}
+use Rattle.rules.specs.Steps.{Step, run, runBy}
 use Rattle.steps.specs.Records.{recordBytes, stepAt, andThen, stepsFrom}
 use Rattle.steps.specs.Turns.{isStep, attempt}
 use Rattle.steps.proofs.Decoding.{step-within}
@@ -57,7 +57,7 @@ module _ (golden records : List ℕ) (m : ℕ) (s₀ : Store) (answers₀ bytes�
     pub going-turn : Going i p s answers bytes → i < m → (o : Option Step) → o ≡ stepAt records p → isStep o ≡ true
         → {after : Store} {answer byte : ℕ} → answer ≡ attempt golden s o .answer → byte ≡ attempt golden s o .byte → after ≡ attempt golden s o .after
         → Going (i + 1) (p + recordBytes) after (set answers i answer) (set bytes i byte)
-    unfolding isStep attempt andThen run putList
+    unfolding isStep attempt andThen runBy putList
     going-turn g h none e t a b r = absurd (false≢true t)
     going-turn g h (some step) e t a b r =
         let q : stepsFrom records p (m - i) ≡ step ∷ stepsFrom records (p + recordBytes) (m - (i + 1)) = next i p h ∙ rw (← e) refl in
@@ -74,7 +74,7 @@ module _ (golden records : List ℕ) (m : ℕ) (s₀ : Store) (answers₀ bytes�
 
     -- no record is left
     ended : Going i p s answers bytes → stepsFrom records p (m - i) ≡ [] → Ended i s answers bytes
-    unfolding run putList
+    unfolding runBy putList
     ended g e =
         let n = rw e at (g .counted) in
         (omega arith, (sym (rw e at (g .reaching)), (sym (rw e at (g .answering)), sym (rw e at (g .giving)))))

@@ -14,5 +14,5 @@ isStep (some step) = true
 
 -- runner 2: the outcome of the step that a record holds; where it holds none, nothing changes, and answer and byte mean nothing
 unfoldable pub attempt : List ℕ → Store → Option Step → Outcome
-attempt golden s none = record { answer = 0; after = s; byte = 0 }
+attempt golden s none = record { answer = 0; after = s; byte = 0; hashed = 0 }
 attempt golden s (some step) = obey golden s step

@@ -66,16 +66,29 @@ fn fetch(memory: &[u8], ledger: &[u8], address: u32) -> Reply
     Reply { answer, byte }
 }
 
-// Obeys a step.
+// Obeys a step. How many blocks it hashed is not told.
 pub fn obey(step: Step, memory: &mut [u8], ledger: &mut [u8], golden: &[u8]) -> Reply
     ensures { λ r. ⌜ r .answer ≡ obey (now (golden .entry)) (lent (now (memory .entry)) (now (ledger .entry))) (meaning step) .answer ⌝ }
     ensures { λ r. ⌜ r .byte ≡ obey (now (golden .entry)) (lent (now (memory .entry)) (now (ledger .entry))) (meaning step) .byte ⌝ }
     ensures { λ r. ⌜ lent (now (memory .exit)) (now (ledger .exit)) ≡ obey (now (golden .entry)) (lent (now (memory .entry)) (now (ledger .entry))) (meaning step) .after ⌝ }
 {
+    let mut hashed = 0;
     match step {
         Step::Begin(first) => only(monitor::pagemon_begin(memory, ledger, first)),
-        Step::CreateL1(block) => only(monitor::pagemon_create_l1(memory, ledger, golden, block)),
-        Step::CreateL2(block) => only(monitor::pagemon_create_l2(memory, ledger, golden, block)),
+        Step::CreateL1(block) => only(monitor::pagemon_create_l1(
+            memory,
+            ledger,
+            golden,
+            block,
+            &mut hashed,
+        )),
+        Step::CreateL2(block) => only(monitor::pagemon_create_l2(
+            memory,
+            ledger,
+            golden,
+            block,
+            &mut hashed,
+        )),
         Step::FreeL1(block) => only(monitor::pagemon_free_l1(memory, ledger, block)),
         Step::FreeL2(block) => only(monitor::pagemon_free_l2(memory, ledger, block)),
         Step::MapL1(block, index, target, rights) => only(monitor::pagemon_map_l1(
@@ -86,6 +99,7 @@ pub fn obey(step: Step, memory: &mut [u8], ledger: &mut [u8], golden: &[u8]) -> 
             index,
             target,
             rights,
+            &mut hashed,
         )),
         Step::MapL2(block, index, target, rights) => only(monitor::pagemon_map_l2(
             memory,
@@ -95,6 +109,7 @@ pub fn obey(step: Step, memory: &mut [u8], ledger: &mut [u8], golden: &[u8]) -> 
             index,
             target,
             rights,
+            &mut hashed,
         )),
         Step::Link(block, index, target, table) => only(monitor::pagemon_link(
             memory,
@@ -128,6 +143,7 @@ pub fn obey(step: Step, memory: &mut [u8], ledger: &mut [u8], golden: &[u8]) -> 
             index,
             target,
             rights,
+            &mut hashed,
         )),
         Step::UnmapLarge(block, index) => only(monitor::pagemon_unmap_large(
             memory,

@@ -13,7 +13,7 @@ use borrow.Author.Tests.{lt-ltb}
 use Rattle.lines.specs.declared.Line.the-variants.{Bad}
 use Rattle.lines.specs.Lines.{textOf}
 use Rattle.rules.specs.Store.{Store}
-use Rattle.rules.specs.Steps.{Run, run}
+use Rattle.rules.specs.Steps.{Run, run, runBy}
 use Rattle.rules.proofs.Runs.{length-answers, length-bytes, reached-append, answers-append, bytes-append}
 use Rattle.steps.specs.Records.{recordBytes, callPlace, stepOf, andThen, allSteps, stepsFrom}
 use Rattle.steps.specs.Spoilt.{spoilt}
@@ -128,7 +128,7 @@ module _ (golden : List ℕ) (s₀ : Store) where
     printed : text ≡ answered golden s₀ input ++ cond (session .over) (textOf (Bad (count input))) []
 
   follows-start : Follows [] [] (start s₀)
-  unfolding stepsFrom run transcript spoilt stepOf isStep
+  unfolding stepsFrom runBy transcript spoilt stepOf isStep
   follows-start = record { store = refl; rest = refl; number = refl; over = refl; printed = refl }
 
   follows-arrival : {input text : List ℕ} {session : Session} → Follows input text session → session .over ≡ false → (chunk : List ℕ)

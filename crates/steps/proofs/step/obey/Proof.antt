@@ -23,12 +23,12 @@ returns c =
 returns-2 : tie.Need-returns-2
 returns-2 c =
     let e = c .before .before .before .pagemon-create-l1 .ensures in
-    rw (c .before .before .before .before .before .before .before .step2 .given .1) (only-obeys (pagemon-create-l1 (e .0) (e .1)) (c .only2 .ensures))
+    rw (c .before .before .before .before .before .before .before .before .step2 .given .1) (only-obeys (pagemon-create-l1 (e .0) (e .1 .1)) (c .only2 .ensures))
 
 returns-3 : tie.Need-returns-3
 returns-3 c =
     let e = c .before .before .before .pagemon-create-l2 .ensures in
-    rw (c .before .before .before .before .before .before .before .step3 .given .1) (only-obeys (pagemon-create-l2 (e .0) (e .1)) (c .only3 .ensures))
+    rw (c .before .before .before .before .before .before .before .before .step3 .given .1) (only-obeys (pagemon-create-l2 (e .0) (e .1 .1)) (c .only3 .ensures))
 
 returns-4 : tie.Need-returns-4
 returns-4 c =
@@ -43,12 +43,12 @@ returns-5 c =
 returns-6 : tie.Need-returns-6
 returns-6 c =
     let e = c .before .before .before .before .before .pagemon-map-l1 .ensures in
-    rw (c .before .before .before .before .before .before .before .before .before .step6 .given .1) (only-obeys (pagemon-map-l1 (e .0) (e .1)) (c .only6 .ensures))
+    rw (c .before .before .before .before .before .before .before .before .before .before .step6 .given .1) (only-obeys (pagemon-map-l1 (e .0) (e .1 .1)) (c .only6 .ensures))
 
 returns-7 : tie.Need-returns-7
 returns-7 c =
     let e = c .before .before .before .before .before .pagemon-map-l2 .ensures in
-    rw (c .before .before .before .before .before .before .before .before .before .step7 .given .1) (only-obeys (pagemon-map-l2 (e .0) (e .1)) (c .only7 .ensures))
+    rw (c .before .before .before .before .before .before .before .before .before .before .step7 .given .1) (only-obeys (pagemon-map-l2 (e .0) (e .1 .1)) (c .only7 .ensures))
 
 returns-8 : tie.Need-returns-8
 returns-8 c =
@@ -75,8 +75,8 @@ returns-12 c = let e = c .read .ensures in rw (c .before .before .before .before
 
 returns-13 : tie.Need-returns-13
 returns-13 c =
-    let e = c .before .before .before .pagemon-write .ensures in
-    rw (c .before .before .before .before .before .before .before .step13 .given .1) (only-obeys (pagemon-write (e .0) (e .1)) (c .only12 .ensures))
+    let e = c .before .before .before .before .before .pagemon-write .ensures in
+    rw (c .before .before .before .before .before .before .before .before .before .step13 .given .1) (only-obeys (pagemon-write (e .0) (e .1)) (c .only12 .ensures))
 
 returns-14 : tie.Need-returns-14
 returns-14 c = let e = c .fetch .ensures in rw (c .before .before .before .before .step14 .given .1) (called-obeys (pagemon-fetch (e .0) (e .1 .0) (e .1 .1)))
@@ -84,7 +84,7 @@ returns-14 c = let e = c .fetch .ensures in rw (c .before .before .before .befor
 returns-15 : tie.Need-returns-15
 returns-15 c =
     let e = c .before .before .before .before .before .pagemon-map-large .ensures in
-    rw (c .before .before .before .before .before .before .before .before .before .step15 .given .1) (only-obeys (pagemon-map-large (e .0) (e .1)) (c .only13 .ensures))
+    rw (c .before .before .before .before .before .before .before .before .before .before .step15 .given .1) (only-obeys (pagemon-map-large (e .0) (e .1 .1)) (c .only13 .ensures))
 
 returns-16 : tie.Need-returns-16
 returns-16 c =
