@@ -5,8 +5,10 @@
  *
  *   memory   n blocks of PAGEMON_BLOCK_BYTES, n from PAGEMON_MIN_BLOCKS to PAGEMON_MAX_BLOCKS: the physical memory of the region.
  *   ledger   PAGEMON_LEDGER_BYTES(n) bytes, kept by the monitor: words of 32 bits, the lowest byte first. They are the region's first block
- *            number B, the first block of the active L1 table (PAGEMON_NO_TABLE for none), and for each block type, w, x, l. w counts the
- *            table entries that let the guest write to the block, x those that let it execute from it, l the L1 entries that link to it.
+ *            number B, the first block of the active L1 table (PAGEMON_NO_TABLE for none), and for each block type, w, x, l, mark. w counts the
+ *            table entries that let the guest write to the block, x those that let it execute from it, l the L1 entries that link to it. A
+ *            block is marked if its mark is exactly PAGEMON_MARKED: create and map then take it for signed and do not hash it. They believe
+ *            this of any ledger that they are lent.
  *   golden   the golden image: SHA-256 digests of PAGEMON_DIGEST_BYTES, one behind the other in any order, none or up to
  *            PAGEMON_MAX_DIGESTS.
  *
@@ -48,11 +50,12 @@ extern "C" {
 #define PAGEMON_L1_ENTRIES 4096u           /* entries of an L1 table */
 #define PAGEMON_L2_ENTRIES 1024u           /* entries of an L2 block: four tables of 256 */
 #define PAGEMON_LEDGER_HEAD_BYTES 8u       /* bytes of the ledger before its first record: B, active */
-#define PAGEMON_LEDGER_RECORD_BYTES 16u    /* bytes of a block's record: type, w, x, l */
+#define PAGEMON_LEDGER_RECORD_BYTES 20u    /* bytes of a block's record: type, w, x, l, mark */
 #define PAGEMON_DIGEST_BYTES 32u           /* bytes of a digest in the golden image */
 #define PAGEMON_MAX_DIGESTS 1024u          /* most digests of a golden image */
 #define PAGEMON_MAX_COUNT 4194304u         /* the limit of a counter, 2^22 */
 #define PAGEMON_NO_TABLE 0xFFFFFFFFu       /* the active word when no table is in use */
+#define PAGEMON_MARKED 1u                  /* the mark of a block that need not be hashed; no other value says so */
 
 /* The ledger's length for a memory of `blocks` blocks. */
 #define PAGEMON_LEDGER_BYTES(blocks) (PAGEMON_LEDGER_HEAD_BYTES + PAGEMON_LEDGER_RECORD_BYTES * (size_t)(blocks))
@@ -75,7 +78,7 @@ enum {
 enum {
     PAGEMON_ACCEPTED = 0,            /* accepted */
     PAGEMON_MISFIT = 1,              /* the length of memory or ledger, or B, is not lawful; in create and map also the golden image's length */
-    PAGEMON_OUTSIDE_REGION = 2,      /* the block, or one of an L1 table's four, lies outside the region */
+    PAGEMON_OUTSIDE_REGION = 2,      /* the block, or one of an L1 table's four or of those to forget, lies outside the region */
     PAGEMON_MISALIGNED = 3,          /* an L1 table's block is no multiple of 4, a section's target none of 256, or a large page's index or target
                                         none of 16 */
     PAGEMON_BEYOND_TABLE = 4,        /* the table has no such index; in link also a table above 3 */
@@ -88,7 +91,7 @@ enum {
     PAGEMON_UNFIT_TARGET = 10,       /* a part of a target, or of an entry's place, lies outside the region; link, create: a link to a block that is not L2;
                                         map, create: a block to be written is no data, or one of the new table; map: the holder would be executed */
     PAGEMON_CLASH = 11,              /* a block would be both writable and executable */
-    PAGEMON_UNSIGNED = 12,           /* a block would be executable that the golden image does not sign */
+    PAGEMON_UNSIGNED = 12,           /* a block would be executable that is not marked and that the golden image does not sign */
     PAGEMON_OVERRUN = 13,            /* a counter would end below 0 or above PAGEMON_MAX_COUNT */
     PAGEMON_NO_ACTIVE_TABLE = 21,    /* guest: the active word is no multiple of 4, or one of four blocks from it on lies outside the region */
     PAGEMON_FAULT_ENTRY = 22,        /* guest: the walk meets a fault */
@@ -98,18 +101,24 @@ enum {
 
 /*
  * Starts a region whose first block is `first_block`. Refusal: 1, with `first_block` in the place of the ledger's B.
- * Writes the ledger: B, no active table, and every type and counter 0.
+ * Writes the ledger: B, no active table, and every type, counter and mark 0.
  */
 uint32_t pagemon_begin(const uint8_t *memory, size_t memory_length, uint8_t *ledger, size_t ledger_length, uint32_t first_block);
 
 /*
  * Makes the four blocks from `block` an L1 table, or `block` an L2 block, with the entries that its bytes hold. Refusals: 1, 2, 3 (L1), 5, 6,
- * 8, 10, 11, 12, 13. Writes the ledger: the types of these blocks, and the counters of what the entries give.
+ * 8, 10, 11, 12, 13. Writes the ledger: the types of these blocks, the counters of what the entries give, and the mark 1 for every block to
+ * which they give execute.
+ *
+ * Every create and map sets `*hashed`: when accepted, the number of blocks that it hashed, which are the different blocks to which its entries
+ * give execute and which were not marked; when refused, 0. `hashed` is aligned as a uint32_t is, and points into none of the buffers.
+ *
+ * After an accepted create or map that lets the guest write to blocks, these are to be forgotten before the guest runs on: pagemon_forget.
  */
 uint32_t pagemon_create_l1(const uint8_t *memory, size_t memory_length, uint8_t *ledger, size_t ledger_length, const uint8_t *golden,
-                           size_t golden_length, uint32_t block);
+                           size_t golden_length, uint32_t block, uint32_t *hashed);
 uint32_t pagemon_create_l2(const uint8_t *memory, size_t memory_length, uint8_t *ledger, size_t ledger_length, const uint8_t *golden,
-                           size_t golden_length, uint32_t block);
+                           size_t golden_length, uint32_t block, uint32_t *hashed);
 
 /*
  * Makes the blocks of a table data again, with the bytes that they hold. Refusals: 1, 2, 3 (L1), 5, 6, 8, 10, 13. Writes the ledger: the
@@ -120,38 +129,42 @@ uint32_t pagemon_free_l2(const uint8_t *memory, size_t memory_length, uint8_t *l
 
 /*
  * Maps a section of 256 blocks from `target` (L1), or the page `target` (L2), at `index` of the table, where a fault entry must stand.
- * Refusals: 1, 2, 3 (L1), 4, 5, 7, 8, 9, 10, 11, 12, 13. Writes the entry's word in memory and the target's counters in the ledger.
+ * Refusals: 1, 2, 3 (L1), 4, 5, 7, 8, 9, 10, 11, 12, 13. Writes the entry's word in memory, and in the ledger the target's counters, the mark 0
+ * for the holder, and with execute the mark 1 for the target. Sets `*hashed`, and asks for a forget after a grant of write, as create does.
  */
 uint32_t pagemon_map_l1(uint8_t *memory, size_t memory_length, uint8_t *ledger, size_t ledger_length, const uint8_t *golden,
-                        size_t golden_length, uint32_t block, uint32_t index, uint32_t target, uint32_t rights);
+                        size_t golden_length, uint32_t block, uint32_t index, uint32_t target, uint32_t rights, uint32_t *hashed);
 uint32_t pagemon_map_l2(uint8_t *memory, size_t memory_length, uint8_t *ledger, size_t ledger_length, const uint8_t *golden,
-                        size_t golden_length, uint32_t block, uint32_t index, uint32_t target, uint32_t rights);
+                        size_t golden_length, uint32_t block, uint32_t index, uint32_t target, uint32_t rights, uint32_t *hashed);
 
 /*
  * Maps the large page of 16 blocks from `target` at the sixteen entries from `index` of the L2 block, all of which must be faults. Refusals: 1,
- * 2, 3, 4, 5, 7, 8, 9, 10, 11, 12, 13. One of the 16 blocks is enough for 10, 11 and 12. Writes the sixteen words in memory and the counters
- * of the 16 blocks in the ledger.
+ * 2, 3, 4, 5, 7, 8, 9, 10, 11, 12, 13. One of the 16 blocks is enough for 10, 11 and 12. Writes the sixteen words in memory, and in the ledger
+ * the counters of the 16 blocks, the mark 0 for the L2 block, and with execute the mark 1 for the 16 blocks. Sets `*hashed`, and asks for a
+ * forget after a grant of write, as create does.
  */
 uint32_t pagemon_map_large(uint8_t *memory, size_t memory_length, uint8_t *ledger, size_t ledger_length, const uint8_t *golden,
-                           size_t golden_length, uint32_t block, uint32_t index, uint32_t target, uint32_t rights);
+                           size_t golden_length, uint32_t block, uint32_t index, uint32_t target, uint32_t rights, uint32_t *hashed);
 
 /*
  * Links L2 table `table` (0 to 3) of the L2 block `target` at `index` of the L1 table, where a fault entry must stand. Refusals: 1, 2, 3, 4, 5,
- * 7, 8, 10, 13. Writes the entry's word in memory and the target's l in the ledger.
+ * 7, 8, 10, 13. Writes the entry's word in memory, and in the ledger the target's l and the mark 0 for the holder.
  */
 uint32_t pagemon_link(uint8_t *memory, size_t memory_length, uint8_t *ledger, size_t ledger_length, uint32_t block, uint32_t index,
                       uint32_t target, uint32_t table);
 
 /*
  * Takes away the entry at `index` of the table (in an L2 block no entry of a large page). Refusals: 1, 2, 3 (L1), 4, 5, 7, 8, 10, 13. Writes
- * 0 over the entry's word in memory, also where a fault stood, and lowers the counters of what the entry gave in the ledger.
+ * 0 over the entry's word in memory, also where a fault stood, and in the ledger lowers the counters of what the entry gave and writes the
+ * mark 0 for the holder.
  */
 uint32_t pagemon_unmap_l1(uint8_t *memory, size_t memory_length, uint8_t *ledger, size_t ledger_length, uint32_t block, uint32_t index);
 uint32_t pagemon_unmap_l2(uint8_t *memory, size_t memory_length, uint8_t *ledger, size_t ledger_length, uint32_t block, uint32_t index);
 
 /*
  * Takes away the large page at the sixteen entries from `index` of the L2 block; where sixteen faults stand there is none, and the answer is
- * 8. Refusals: 1, 2, 3, 4, 5, 7, 8, 10, 13. Writes 0 over the sixteen words in memory, and lowers the counters of the 16 blocks in the ledger.
+ * 8. Refusals: 1, 2, 3, 4, 5, 7, 8, 10, 13. Writes 0 over the sixteen words in memory, and in the ledger lowers the counters of the 16 blocks and
+ * writes the mark 0 for the L2 block.
  */
 uint32_t pagemon_unmap_large(uint8_t *memory, size_t memory_length, uint8_t *ledger, size_t ledger_length, uint32_t block, uint32_t index);
 
@@ -169,9 +182,19 @@ uint32_t pagemon_fetch(const uint8_t *memory, size_t memory_length, const uint8_
 
 /*
  * The guest writes the low 8 bits of `byte` at a virtual address, through the active table. Refusals: 1, 21, and by the walk 22, 23, 24.
- * Writes that one byte of memory.
+ * Writes that one byte of memory, and the mark 0 for its block in the ledger.
  */
-uint32_t pagemon_write(uint8_t *memory, size_t memory_length, const uint8_t *ledger, size_t ledger_length, uint32_t address, uint32_t byte);
+uint32_t pagemon_write(uint8_t *memory, size_t memory_length, uint8_t *ledger, size_t ledger_length, uint32_t address, uint32_t byte);
+
+/*
+ * Clears the marks of the `count` blocks from `block` on: create and map hash them again before the guest may execute them. Refusals: 1, 2. A
+ * `count` of 0 changes nothing, and no `block` is refused then. Writes the mark 0 for these blocks in the ledger.
+ *
+ * This is the hypervisor's duty. The guest's processor writes without a call, so that no mark is cleared by it. So right after each accepted
+ * create or map that lets the guest write to blocks, and before the guest runs on, the hypervisor forgets these blocks: the target of a map, and
+ * for a create all blocks to which its entries give write, or simply the whole region. docs/INTEGRATION.md says what happens if it does not.
+ */
+uint32_t pagemon_forget(const uint8_t *memory, size_t memory_length, uint8_t *ledger, size_t ledger_length, uint32_t block, uint32_t count);
 
 #ifdef __cplusplus
 }

@@ -4,7 +4,7 @@
  *
  * A record is PAGEMON_RECORD_BYTES bytes: the two bytes of the mark, a call byte (below), and four argument words, little-endian, in the order of the call's
  * parameters in pagemon.h. Words that the call does not use may hold anything. A record with another mark or another call byte, and a rest shorter than a
- * record, hold no step.
+ * record, hold no step. pagemon_forget has no call byte, so no record is one.
  *
  * libsteps.a has the calls' code in itself, and can be linked beside libmonitor.a.
  */
@@ -47,7 +47,7 @@ enum {
  * image, as for the calls of pagemon.h.
  *
  * Writes memory and ledger as the calls do, the answer of each record obeyed to `answers`, and to `bytes` the byte that its read or fetch gave, 0 for every
- * other call. What lies beyond in `answers` and `bytes` stays as it was.
+ * other call. What lies beyond in `answers` and `bytes` stays as it was. How many blocks a create or map hashed is not handed out.
  *
  * A pointer whose length is 0 is not followed, and may be NULL; no other pointer is NULL. `answers` is aligned as a uint32_t is; the other five buffers have
  * any alignment. None of the six shares a byte with another, but golden and records, which are only read, may share bytes with each other. Nothing else writes

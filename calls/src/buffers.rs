@@ -2,9 +2,11 @@
 
 pub const BLOCK: usize = 4096;
 pub const LEDGER_HEAD: usize = 8;
-pub const LEDGER_RECORD: usize = 16;
+pub const LEDGER_RECORD: usize = 20;
 /// The active word when no table is in use.
 pub const NO_TABLE: u32 = 0xFFFF_FFFF;
+/// The mark of a block that need not be hashed.
+pub const MARKED: u32 = 1;
 
 /// The ledger's length for a memory of so many blocks.
 pub const fn ledger_bytes(blocks: usize) -> usize {

@@ -24,18 +24,34 @@ macro_rules! pointer {
     };
 }
 
+macro_rules! call_byte {
+    (-) => {
+        None
+    };
+    ($byte:literal) => {
+        Some($byte)
+    };
+}
+
 macro_rules! kinds {
-    ($($kind:ident = $byte:literal: $export:ident(
+    ($($kind:ident = $byte:tt: $export:ident(
         $($access:tt $buffer:ident),*; $($number:ident),* $(; $($output:ident: $type:tt),*)?
     ) refuses $($refusal:ident),*;)*) => {
-        /// The calls, in the order of their call bytes.
+        /// The calls: those of records in the order of their call bytes, then the others.
         #[derive(Clone, Copy, PartialEq, Eq, PartialOrd, Ord, Debug)]
         pub enum Kind {
-            $($kind = $byte,)*
+            $($kind,)*
         }
 
         impl Kind {
             pub const ALL: [Kind; [$(stringify!($kind)),*].len()] = [$(Kind::$kind),*];
+
+            /// The call byte of its records, if records can say it.
+            pub fn byte(self) -> Option<u8> {
+                match self {
+                    $(Kind::$kind => call_byte!($byte),)*
+                }
+            }
 
             /// The name of the export in C.
             pub fn export(self) -> &'static str {
@@ -101,13 +117,13 @@ macro_rules! kinds {
 crate::table!(kinds);
 
 impl Kind {
-    /// The call byte of its records.
-    pub fn byte(self) -> u8 {
-        self as u8
+    /// The calls that records can say.
+    pub fn recorded() -> impl Iterator<Item = Kind> + Clone {
+        Kind::ALL.into_iter().filter(|kind| kind.byte().is_some())
     }
 
     pub fn of_byte(byte: u8) -> Option<Kind> {
-        Kind::ALL.into_iter().find(|kind| kind.byte() == byte)
+        Kind::recorded().find(|kind| kind.byte() == Some(byte))
     }
 
     pub fn name(self) -> &'static str {
@@ -127,6 +143,11 @@ impl Kind {
     pub fn gives_byte(self) -> bool {
         self.outputs().contains(&"byte")
     }
+
+    /// Does it give the number of blocks that it hashed?
+    pub fn gives_hashed(self) -> bool {
+        self.outputs().contains(&"hashed")
+    }
 }
 
 #[cfg(test)]
@@ -135,14 +156,22 @@ mod tests {
 
     #[test]
     fn bytes_and_names_lead_back() {
-        for (kind, byte) in Kind::ALL.into_iter().zip(1..) {
-            assert_eq!(kind.byte(), byte);
+        for (kind, byte) in Kind::recorded().zip(1..) {
+            assert_eq!(kind.byte(), Some(byte));
             assert_eq!(Kind::of_byte(byte), Some(kind));
+        }
+        for kind in Kind::ALL {
             assert_eq!(Kind::named(kind.name()), Some(kind));
         }
         assert_eq!(Kind::of_byte(0), None);
-        assert_eq!(Kind::of_byte(Kind::ALL.len() as u8 + 1), None);
+        assert_eq!(Kind::of_byte(Kind::recorded().count() as u8 + 1), None);
         assert_eq!(Kind::named("Begin"), None);
+    }
+
+    #[test]
+    fn forget_has_no_call_byte() {
+        assert_eq!(Kind::Forget.byte(), None);
+        assert_eq!(Kind::recorded().collect::<Vec<Kind>>(), Kind::ALL[..16]);
     }
 
     #[test]
@@ -151,8 +180,12 @@ mod tests {
         assert_eq!(Kind::Read.parameters(), ["address"]);
         assert!(Kind::Read.gives_byte());
         assert!(!Kind::Write.gives_byte());
-        let access = PerBuffer { memory: Access::Writes, ledger: Access::Reads, golden: Access::NotLent };
+        assert!(Kind::MapL2.gives_hashed());
+        assert!(!Kind::Read.gives_hashed());
+        let access = PerBuffer { memory: Access::Writes, ledger: Access::Writes, golden: Access::NotLent };
         assert_eq!(Kind::Write.access(), access);
+        let access = PerBuffer { memory: Access::Reads, ledger: Access::Reads, golden: Access::NotLent };
+        assert_eq!(Kind::Read.access(), access);
         assert_eq!(Kind::Switch.refusals(), [1, 2, 3, 5]);
         assert_eq!(Kind::Switch.words(5), Some("a block is not of type L1"));
         assert_eq!(Kind::Switch.words(4), None);

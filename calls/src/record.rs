@@ -7,10 +7,15 @@ pub const MARK: [u8; 2] = [0x50, 0x54];
 pub const RECORD_BYTES: usize = 3 + 4 * NUMBERS;
 
 impl Call {
+    /// The record of a call that records can say.
+    ///
+    /// # Panics
+    ///
+    /// If the call has no call byte.
     pub fn record(&self) -> [u8; RECORD_BYTES] {
         let mut record = [0; RECORD_BYTES];
         record[..2].copy_from_slice(&MARK);
-        record[2] = self.kind.byte();
+        record[2] = self.kind.byte().unwrap_or_else(|| panic!("no record can say {self}"));
         for (place, word) in record[3..].chunks_exact_mut(4).zip(self.arguments) {
             place.copy_from_slice(&word.to_le_bytes());
         }
@@ -50,10 +55,16 @@ mod tests {
     #[test]
     fn records_lead_back() {
         let mut random = Random::new(1);
-        for kind in Kind::ALL {
+        for kind in Kind::recorded() {
             let call = Call { kind, arguments: [(); NUMBERS].map(|()| random.next() as u32) };
             assert_eq!(Call::of_record(&call.record()), Ok(call));
         }
+    }
+
+    #[test]
+    #[should_panic(expected = "no record can say forget 256 1")]
+    fn forget_has_no_record() {
+        Call::new(Kind::Forget, &[256, 1]).record();
     }
 
     #[test]
@@ -67,6 +78,7 @@ mod tests {
         assert_eq!(with(0, 0x51), "the mark is 51 54, not 50 54");
         assert_eq!(with(1, 0x50), "the mark is 50 50, not 50 54");
         assert_eq!(with(2, 0), "there is no call 0");
+        assert_eq!(with(2, 17), "there is no call 17");
         assert_eq!(with(2, 255), "there is no call 255");
         assert_eq!(Call::of_record(&good[..18]), Err("short: 18 of 19 bytes".to_string()));
         assert_eq!(Call::of_record(&good[..1]), Err("short: 1 of 19 bytes".to_string()));

@@ -16,6 +16,7 @@ pub const MISFIT_OR_IMAGE: Refusal =
 
 pub const TABLE_OUTSIDE: Refusal = refusal(2, "a block of the table is outside the region");
 pub const BLOCK_OUTSIDE: Refusal = refusal(2, "the block is outside the region");
+pub const BLOCKS_OUTSIDE: Refusal = refusal(2, "one of the blocks is outside the region");
 
 pub const MISALIGNED: Refusal = refusal(3, "the block is not a multiple of 4");
 pub const MISALIGNED_SECTION: Refusal = refusal(3, "the block is not a multiple of 4, or the target not of 256");
@@ -54,7 +55,7 @@ pub const ASTRAY_ENTRY: Refusal = refusal(10, "the entry leads outside the regio
 pub const ASTRAY_ENTRIES: Refusal = refusal(10, "an entry leads outside the region");
 
 pub const CLASH: Refusal = refusal(11, "a block would be writable and executable");
-pub const UNSIGNED: Refusal = refusal(12, "a block to execute is not signed");
+pub const UNSIGNED: Refusal = refusal(12, "a block to execute is neither marked nor signed");
 pub const OVERRUN: Refusal = refusal(13, "a counter would leave 0 to 2^22");
 
 pub const NO_ACTIVE_TABLE: Refusal = refusal(21, "no table is active");

@@ -18,10 +18,11 @@ impl From<&mut [u8]> for Lent {
 #[derive(Clone, Copy)]
 pub struct Outputs {
     pub byte: *mut u8,
+    pub hashed: *mut u32,
 }
 
 macro_rules! exports {
-    ($($kind:ident = $byte:literal: $export:ident(
+    ($($kind:ident = $byte:tt: $export:ident(
         $($access:tt $buffer:ident),*; $($number:ident),* $(; $($output:ident: $type:ty),*)?
     ) refuses $($refusal:ident),*;)*) => {
         #[link(name = "monitor", kind = "static")]

@@ -30,7 +30,7 @@ fn answer(kind: Kind, line: Option<&str>) -> Result<String, String> {
     let unfit = || format!("`{line}` is no answer to {}", kind.name());
     let numbers: Vec<u32> = line.split(' ').map(str::parse).collect::<Result<_, _>>().map_err(|_| unfit())?;
     match numbers[..] {
-        [call, ..] if call != u32::from(kind.byte()) => Err(unfit()),
+        [call, ..] if Some(call) != kind.byte().map(u32::from) => Err(unfit()),
         [_, 0] if !kind.gives_byte() => Ok("0 accepted".to_string()),
         [_, 0, byte] if kind.gives_byte() => Ok(format!("0 accepted, byte {byte}")),
         [_, number] => kind.words(number).map(|words| format!("{number} {words}")).ok_or_else(unfit),

@@ -7,7 +7,7 @@ use std::io::{self, Read, Write};
 use std::process::ExitCode;
 
 fn usage() -> String {
-    let calls = Kind::ALL.map(|kind| format!("  {} {}\n", kind.name(), kind.parameters().join(" ")));
+    let calls = Kind::recorded().map(|kind| format!("  {} {}\n", kind.name(), kind.parameters().join(" ")));
     format!(
         "\
 usage: records encode < SCRIPT > RECORDS     lines to records
@@ -21,7 +21,7 @@ A record has four words. Those that the call does not use may stand behind a bar
 
 Exit status: 0; 1 if a line, a record or pagemon's output is wrong, or something can't be read or written; 2 for a wrong command.
 ",
-        calls.concat()
+        calls.collect::<String>()
     )
 }
 

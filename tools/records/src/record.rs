@@ -45,7 +45,7 @@ mod tests {
     #[test]
     fn every_record_comes_back() {
         let mut random = Random::new(1);
-        for kind in Kind::ALL {
+        for kind in Kind::recorded() {
             for zeros in 0..16 {
                 let word = |place: usize| if zeros >> place & 1 == 1 { 0 } else { random.next() as u32 };
                 let call = Call::new(kind, &[0, 1, 2, 3].map(word));
@@ -57,9 +57,10 @@ mod tests {
     #[test]
     fn every_list_comes_back() {
         let mut random = Random::new(2);
+        let call_bytes: Vec<u8> = Kind::recorded().filter_map(Kind::byte).collect();
         for length in [1, 2, 100, 3000] {
             let bytes: Vec<u8> = (0..length)
-                .flat_map(|_| [vec![0x50, 0x54, random.one_of(&Kind::ALL).byte()], random.bytes(16)].concat())
+                .flat_map(|_| [vec![0x50, 0x54, random.one_of(&call_bytes)], random.bytes(16)].concat())
                 .collect();
             assert!(there_and_back(&bytes) == bytes, "{length} records");
         }

@@ -48,6 +48,9 @@ fn call(written: &str) -> Result<Call, String> {
     };
     let (name, used) = used.split_once(char::is_whitespace).unwrap_or((used, ""));
     let kind = Kind::named(name).ok_or_else(|| format!("there is no call `{name}`"))?;
+    if kind.byte().is_none() {
+        return Err(format!("no record can say {name}"));
+    }
     let mut words = numbers(used)?;
     if words.len() != kind.arity() {
         let (given, taken, parameters) = (words.len(), kind.arity(), kind.parameters().join(" "));
@@ -128,6 +131,7 @@ mod tests {
     fn wrong_lines() {
         assert_eq!(wrong("bgin 0"), "there is no call `bgin`");
         assert_eq!(wrong("BEGIN 0"), "there is no call `BEGIN`");
+        assert_eq!(wrong("forget 0 1"), "no record can say forget");
         assert_eq!(wrong("begin"), "begin has 0 arguments, not 1 (first_block)");
         assert_eq!(wrong("begin 0 0"), "begin has 2 arguments, not 1 (first_block)");
         assert_eq!(wrong("map_l2 4 5 8"), "map_l2 has 3 arguments, not 4 (block index target rights)");

@@ -84,7 +84,7 @@ fn help_comes_at_once() {
     let usage = String::from_utf8(output.stdout).unwrap();
     assert_eq!((output.status.code(), output.stderr), (Some(0), Vec::new()));
     assert!(usage.starts_with("usage: records encode"));
-    for kind in Kind::ALL {
+    for kind in Kind::recorded() {
         assert!(usage.contains(&format!("\n  {} {}\n", kind.name(), kind.parameters().join(" "))));
     }
 }
