@@ -44,6 +44,8 @@ BOUNDS = {
     "pushes and a reservation": ("*f { push rbx; push r12; sub rsp, 0x18; add rsp, 0x18; pop r12; pop rbx; ret }", {"f": 48}),
     "pushes on two paths, of which one is deeper": (
         "*f { test edi, edi; je 1f; push rbx; pop rbx; ret; 1: sub rsp, 0x100; add rsp, 0x100; ret }", {"f": 264}),
+    "a place below the stack pointer": ("*f { mov [rsp - 24], rdi; ret }", {"f": 32}),
+    "a jump table with an instruction aside": (table(more="xor esi, esi;"), {"f": 64}),
     "one push on each of two paths that meet": ("*f { test edi, edi; je 1f; push rbx; jmp 2f; 1: push rbp; 2: pop rax; ret }", {"f": 16}),
     "a loop": ("*f { push rbx; 1: dec edi; jne 1b; pop rbx; ret }", {"f": 16}),
     "a reservation by a negative number": ("*f { add rsp, -0x80; sub rsp, -0x80; ret }", {"f": 136}),
@@ -95,7 +97,8 @@ REFUSALS = {
     "a push of 2 bytes": ("*f { push ax; pop ax; ret }", r"f: 0: push ax: a push that is not known"),
     "flags": ("*f { pushf; popf; ret }", r"f: 0: pushf: an instruction of which"),
     "a system call": ("*f { syscall; ret }", r"f: 0: syscall: an instruction of which"),
-    "a place below the stack pointer": ("*f { mov [rsp - 8], rdi; ret }", r"f: 0: mov .*: a place below the stack pointer$"),
+    "a place far below the stack pointer": ("*f { mov [rsp - 136], rdi; ret }", r"f: 0: mov .*: a place below the stack pointer$"),
+    "a place below the stack pointer by a register": ("*f { mov [rsp + rdi * 8 - 8], rdi; ret }", r"f: 0: mov .*: a place below the stack pointer$"),
     "depths that differ where two paths meet": (
         "*f { test edi, edi; je 1f; push rbx; 1: nop; ud2 }", r"it leads to 5 with (0|8) bytes on the stack, another path with (0|8)$"),
     "a loop that pushes": (

@@ -32,6 +32,8 @@ IMMEDIATE = re.compile(r"0x[0-9a-f]+")
 DIRECT = re.compile(r"[0-9a-f]+")
 MOVED = re.compile(r"\[rsp([+-])(0x[0-9a-f]+)\]")
 BELOW = re.compile(r"\[[^\]]*\brsp\b[^\]]*-0x")
+RED_ZONE = re.compile(r".*\[rsp-(0x[0-9a-f]+)\]")
+RED_ZONE_BYTES = 128
 
 
 class Unreadable(Exception):
@@ -40,10 +42,11 @@ class Unreadable(Exception):
 
 @dataclass(frozen=True)
 class Effect:
-    """`change` is the bytes by which the stack grows, `target` the address that the disassembler prints."""
+    """`change` is the bytes by which the stack grows, `target` the address that the disassembler prints, `below` the bytes used beyond it."""
     flow: str
     change: int = 0
     target: int = None
+    below: int = 0
 
 
 def without_comment(text):
@@ -100,6 +103,14 @@ def moved(mnemonic, operands):
     raise Unreadable("a write to the stack pointer that does not move it by a constant")
 
 
+def in_red_zone(mnemonic, operands):
+    """A place below the stack pointer, which a function that calls no other may use for 128 bytes."""
+    places = [RED_ZONE.fullmatch(operand) for operand in operands if BELOW.search(operand)]
+    if mnemonic not in KNOWN or not all(places) or any(int(place[1], 16) > RED_ZONE_BYTES for place in places):
+        raise Unreadable("a place below the stack pointer")
+    return Effect(NEXT, below=max(int(place[1], 16) for place in places))
+
+
 def effect(text):
     mnemonic, operands = parts(text)
     if mnemonic in ("call", "jmp") or mnemonic in JUMPS_ON_CONDITION:
@@ -111,7 +122,7 @@ def effect(text):
     if operands and operands[0] in STACK_POINTER and mnemonic not in ("push", "pop"):
         return moved(mnemonic, operands)
     if any(BELOW.search(operand) for operand in operands):
-        raise Unreadable("a place below the stack pointer")
+        return in_red_zone(mnemonic, operands)
     if mnemonic in ("push", "pop"):
         return pushed(mnemonic, operands[0])
     if mnemonic in EXCHANGES and not any(operand in STACK_POINTER for operand in operands):
@@ -129,15 +140,28 @@ def place(relocation):
 
 
 TABLE_ENTRY_BYTES = 4
-TABLE_STEPS = 4
+TABLE_STEPS = (4, 5)
 TABLE_FORM = re.compile(r"lea (?P<base>r\w+),\[rip\+0x0\]\n"
                         r"movsxd (?P<to>r\w+),DWORD PTR \[(?P=base)\+r\w+\*4\]\n"
                         r"add (?P=to),(?P=base)\n"
                         r"jmp (?P=to)")
 
 
+WHOLE = {**{name: name for name in WIDE_REGISTERS}, **{"e" + name[1:] if name[1].isalpha() else name + "d": name for name in WIDE_REGISTERS}}
+
+
+def is_aside(text, jump):
+    """The instruction moves or clears whole registers, none of which the jump uses."""
+    mnemonic, operands = parts(text)
+    kept = parts(jump)[1]
+    return mnemonic in ("mov", "xor") and all(WHOLE.get(operand, kept[0]) not in kept for operand in operands)
+
+
 def table_base(instructions):
-    """Symbol and offset of the table by which the last of these four instructions jumps: entries are distances from the table's start."""
+    """Symbol and offset of the table by which the last of these four instructions jumps: entries are distances from the table's start. Before the
+    jump a fifth may stand that has nothing to do with it."""
+    if len(instructions) == 5 and is_aside(instructions[3].text, instructions[4].text):
+        instructions = instructions[:3] + instructions[4:]
     plain = "\n".join(" ".join(without_comment(i.text).split()) for i in instructions)
     form = TABLE_FORM.fullmatch(plain)
     if not form or form["base"] == form["to"] or not instructions[0].relocation:
