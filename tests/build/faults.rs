@@ -8,8 +8,8 @@ use std::ops::Range;
 use std::path::Path;
 
 /// The lists, in the order in which their faults are numbered.
-const LISTS: [&str; 10] =
-    ["groups", "region", "refusals", "guest", "entries", "mapping", "signature", "leaves", "tables", "large"];
+const LISTS: [&str; 11] =
+    ["groups", "region", "refusals", "guest", "entries", "mapping", "signature", "leaves", "tables", "large", "marks"];
 
 type Result<T = ()> = std::result::Result<T, String>;
 

@@ -55,65 +55,66 @@ struct step {
     uint32_t arguments[4];
     uint32_t answer;
     uint8_t byte;
+    uint32_t hashed;
 };
 
 /* Every call accepted, and most refusals. Steps reach the first and the last byte of the memory. */
 static const struct step script[] = {
-    {PAGEMON_CALL_READ, {0}, PAGEMON_MISFIT, 0}, /* no ledger yet */
-    {PAGEMON_CALL_BEGIN, {FIRST + 1}, PAGEMON_MISFIT, 0},
-    {PAGEMON_CALL_BEGIN, {FIRST}, PAGEMON_ACCEPTED, 0},
-    {PAGEMON_CALL_READ, {0}, PAGEMON_NO_ACTIVE_TABLE, 0},
-    {PAGEMON_CALL_CREATE_L2, {PAGES}, PAGEMON_ACCEPTED, 0}, /* it executes CODE */
-    {PAGEMON_CALL_CREATE_L1, {TABLE}, PAGEMON_ACCEPTED, 0}, /* its last entry links to the last table of PAGES */
-    {PAGEMON_CALL_CREATE_L2, {FIRST + BLOCKS}, PAGEMON_OUTSIDE_REGION, 0},
-    {PAGEMON_CALL_CREATE_L1, {TABLE + 1}, PAGEMON_MISALIGNED, 0},
-    {PAGEMON_CALL_CREATE_L1, {TABLE}, PAGEMON_WRONG_TYPE, 0},
-    {PAGEMON_CALL_LINK, {TABLE, 0, PAGES, 0}, PAGEMON_ACCEPTED, 0},
-    {PAGEMON_CALL_LINK, {TABLE, 0, PAGES, 0}, PAGEMON_WRONG_ENTRY, 0},
-    {PAGEMON_CALL_LINK, {TABLE, PAGEMON_L1_ENTRIES, PAGES, 0}, PAGEMON_BEYOND_TABLE, 0},
-    {PAGEMON_CALL_LINK, {TABLE, 1, DATA, 0}, PAGEMON_UNFIT_TARGET, 0},
-    {PAGEMON_CALL_SWITCH, {PAGES}, PAGEMON_WRONG_TYPE, 0},
-    {PAGEMON_CALL_SWITCH, {TABLE}, PAGEMON_ACCEPTED, 0},
-    {PAGEMON_CALL_FETCH, {0x00000123}, PAGEMON_ACCEPTED, 0x1E},
-    {PAGEMON_CALL_READ, {0xFFFFFFFF}, PAGEMON_ACCEPTED, 0x5A}, /* the last byte of the memory */
-    {PAGEMON_CALL_MAP_L2, {PAGES, 5, DATA, WRITES}, PAGEMON_ACCEPTED, 0},
-    {PAGEMON_CALL_WRITE, {0x00005000, 65}, PAGEMON_ACCEPTED, 0},
-    {PAGEMON_CALL_READ, {0x00005000}, PAGEMON_ACCEPTED, 65},
-    {PAGEMON_CALL_FETCH, {0x00005000}, PAGEMON_RIGHT_LACKING, 0},
-    {PAGEMON_CALL_READ, {0x00009000}, PAGEMON_FAULT_ENTRY, 0},
-    {PAGEMON_CALL_MAP_L2, {PAGES, 6, DATA, EXECUTES}, PAGEMON_CLASH, 0},
-    {PAGEMON_CALL_MAP_LARGE, {PAGES, 16, FIRST, EXECUTES}, PAGEMON_CLASH, 0}, /* DATA is one of the sixteen */
-    {PAGEMON_CALL_MAP_L2, {PAGES, 6, DATA, PAGEMON_WRITE}, PAGEMON_UNLAWFUL_RIGHTS, 0},
-    {PAGEMON_CALL_UNMAP_L2, {PAGES, 5}, PAGEMON_ACCEPTED, 0},
-    {PAGEMON_CALL_MAP_L1, {TABLE, 4, FIRST, EXECUTES}, PAGEMON_UNSIGNED, 0}, /* DATA was written */
-    {PAGEMON_CALL_MAP_LARGE, {PAGES, 16, FIRST, EXECUTES}, PAGEMON_UNSIGNED, 0},
-    {PAGEMON_CALL_MAP_L2, {PAGES, 5, DATA, WRITES}, PAGEMON_ACCEPTED, 0},
-    {PAGEMON_CALL_WRITE, {0x00005000, 0}, PAGEMON_ACCEPTED, 0},
-    {PAGEMON_CALL_UNMAP_L2, {PAGES, 5}, PAGEMON_ACCEPTED, 0},
-    {PAGEMON_CALL_MAP_L1, {TABLE, 4, FIRST, EXECUTES}, PAGEMON_ACCEPTED, 0}, /* 256 blocks are hashed */
-    {PAGEMON_CALL_FETCH, {0x00408FFF}, PAGEMON_ACCEPTED, 0x1E},
-    {PAGEMON_CALL_UNMAP_L1, {TABLE, 4}, PAGEMON_ACCEPTED, 0},
-    {PAGEMON_CALL_MAP_LARGE, {PAGES, 17, FIRST, EXECUTES}, PAGEMON_MISALIGNED, 0},
-    {PAGEMON_CALL_MAP_LARGE, {PAGES, PAGEMON_L2_ENTRIES, FIRST, EXECUTES}, PAGEMON_BEYOND_TABLE, 0},
-    {PAGEMON_CALL_MAP_LARGE, {PAGES, PAGEMON_L2_ENTRIES - 16, FIRST, EXECUTES}, PAGEMON_WRONG_ENTRY, 0}, /* the last one is a page */
-    {PAGEMON_CALL_MAP_LARGE, {PAGES, 16, FIRST, EXECUTES}, PAGEMON_ACCEPTED, 0},                         /* 16 blocks are hashed */
-    {PAGEMON_CALL_FETCH, {0x00018FFF}, PAGEMON_ACCEPTED, 0x1E},
-    {PAGEMON_CALL_READ, {0x0001FFFF}, PAGEMON_ACCEPTED, 0},
-    {PAGEMON_CALL_UNMAP_L2, {PAGES, 31}, PAGEMON_WRONG_ENTRY, 0},
-    {PAGEMON_CALL_UNMAP_LARGE, {PAGES, 31}, PAGEMON_MISALIGNED, 0},
-    {PAGEMON_CALL_UNMAP_LARGE, {PAGES, 16}, PAGEMON_ACCEPTED, 0},
-    {PAGEMON_CALL_UNMAP_LARGE, {PAGES, 16}, PAGEMON_WRONG_ENTRY, 0},
-    {PAGEMON_CALL_FREE_L2, {PAGES}, PAGEMON_IN_USE, 0},
-    {PAGEMON_CALL_UNMAP_L1, {TABLE, 0}, PAGEMON_ACCEPTED, 0},
-    {PAGEMON_CALL_UNMAP_L1, {TABLE, PAGEMON_L1_ENTRIES - 1}, PAGEMON_ACCEPTED, 0},
-    {PAGEMON_CALL_FREE_L2, {PAGES}, PAGEMON_ACCEPTED, 0},
-    {PAGEMON_CALL_FREE_L1, {TABLE}, PAGEMON_IN_USE, 0},
-    {PAGEMON_CALL_CREATE_L1, {OTHER}, PAGEMON_ACCEPTED, 0},
-    {PAGEMON_CALL_SWITCH, {OTHER}, PAGEMON_ACCEPTED, 0},
-    {PAGEMON_CALL_FREE_L1, {TABLE}, PAGEMON_ACCEPTED, 0},
-    {PAGEMON_CALL_MAP_L1, {OTHER, PAGEMON_L1_ENTRIES - 1, FIRST, WRITES}, PAGEMON_ACCEPTED, 0}, /* the last word of the memory */
-    {PAGEMON_CALL_WRITE, {0xFFF00000, 77}, PAGEMON_ACCEPTED, 0},                               /* and the first byte */
-    {PAGEMON_CALL_READ, {0xFFF00000}, PAGEMON_ACCEPTED, 77},
+    {PAGEMON_CALL_READ, {0}, PAGEMON_MISFIT, 0, 0}, /* no ledger yet */
+    {PAGEMON_CALL_BEGIN, {FIRST + 1}, PAGEMON_MISFIT, 0, 0},
+    {PAGEMON_CALL_BEGIN, {FIRST}, PAGEMON_ACCEPTED, 0, 0},
+    {PAGEMON_CALL_READ, {0}, PAGEMON_NO_ACTIVE_TABLE, 0, 0},
+    {PAGEMON_CALL_CREATE_L2, {PAGES}, PAGEMON_ACCEPTED, 0, 1}, /* it executes CODE */
+    {PAGEMON_CALL_CREATE_L1, {TABLE}, PAGEMON_ACCEPTED, 0, 0}, /* its last entry links to the last table of PAGES */
+    {PAGEMON_CALL_CREATE_L2, {FIRST + BLOCKS}, PAGEMON_OUTSIDE_REGION, 0, 0},
+    {PAGEMON_CALL_CREATE_L1, {TABLE + 1}, PAGEMON_MISALIGNED, 0, 0},
+    {PAGEMON_CALL_CREATE_L1, {TABLE}, PAGEMON_WRONG_TYPE, 0, 0},
+    {PAGEMON_CALL_LINK, {TABLE, 0, PAGES, 0}, PAGEMON_ACCEPTED, 0, 0},
+    {PAGEMON_CALL_LINK, {TABLE, 0, PAGES, 0}, PAGEMON_WRONG_ENTRY, 0, 0},
+    {PAGEMON_CALL_LINK, {TABLE, PAGEMON_L1_ENTRIES, PAGES, 0}, PAGEMON_BEYOND_TABLE, 0, 0},
+    {PAGEMON_CALL_LINK, {TABLE, 1, DATA, 0}, PAGEMON_UNFIT_TARGET, 0, 0},
+    {PAGEMON_CALL_SWITCH, {PAGES}, PAGEMON_WRONG_TYPE, 0, 0},
+    {PAGEMON_CALL_SWITCH, {TABLE}, PAGEMON_ACCEPTED, 0, 0},
+    {PAGEMON_CALL_FETCH, {0x00000123}, PAGEMON_ACCEPTED, 0x1E, 0},
+    {PAGEMON_CALL_READ, {0xFFFFFFFF}, PAGEMON_ACCEPTED, 0x5A, 0}, /* the last byte of the memory */
+    {PAGEMON_CALL_MAP_L2, {PAGES, 5, DATA, WRITES}, PAGEMON_ACCEPTED, 0, 0},
+    {PAGEMON_CALL_WRITE, {0x00005000, 65}, PAGEMON_ACCEPTED, 0, 0},
+    {PAGEMON_CALL_READ, {0x00005000}, PAGEMON_ACCEPTED, 65, 0},
+    {PAGEMON_CALL_FETCH, {0x00005000}, PAGEMON_RIGHT_LACKING, 0, 0},
+    {PAGEMON_CALL_READ, {0x00009000}, PAGEMON_FAULT_ENTRY, 0, 0},
+    {PAGEMON_CALL_MAP_L2, {PAGES, 6, DATA, EXECUTES}, PAGEMON_CLASH, 0, 0},
+    {PAGEMON_CALL_MAP_LARGE, {PAGES, 16, FIRST, EXECUTES}, PAGEMON_CLASH, 0, 0}, /* DATA is one of the sixteen */
+    {PAGEMON_CALL_MAP_L2, {PAGES, 6, DATA, PAGEMON_WRITE}, PAGEMON_UNLAWFUL_RIGHTS, 0, 0},
+    {PAGEMON_CALL_UNMAP_L2, {PAGES, 5}, PAGEMON_ACCEPTED, 0, 0},
+    {PAGEMON_CALL_MAP_L1, {TABLE, 4, FIRST, EXECUTES}, PAGEMON_UNSIGNED, 0, 0}, /* DATA was written */
+    {PAGEMON_CALL_MAP_LARGE, {PAGES, 16, FIRST, EXECUTES}, PAGEMON_UNSIGNED, 0, 0},
+    {PAGEMON_CALL_MAP_L2, {PAGES, 5, DATA, WRITES}, PAGEMON_ACCEPTED, 0, 0},
+    {PAGEMON_CALL_WRITE, {0x00005000, 0}, PAGEMON_ACCEPTED, 0, 0},
+    {PAGEMON_CALL_UNMAP_L2, {PAGES, 5}, PAGEMON_ACCEPTED, 0, 0},
+    {PAGEMON_CALL_MAP_L1, {TABLE, 4, FIRST, EXECUTES}, PAGEMON_ACCEPTED, 0, 255}, /* CODE is marked */
+    {PAGEMON_CALL_FETCH, {0x00408FFF}, PAGEMON_ACCEPTED, 0x1E, 0},
+    {PAGEMON_CALL_UNMAP_L1, {TABLE, 4}, PAGEMON_ACCEPTED, 0, 0},
+    {PAGEMON_CALL_MAP_LARGE, {PAGES, 17, FIRST, EXECUTES}, PAGEMON_MISALIGNED, 0, 0},
+    {PAGEMON_CALL_MAP_LARGE, {PAGES, PAGEMON_L2_ENTRIES, FIRST, EXECUTES}, PAGEMON_BEYOND_TABLE, 0, 0},
+    {PAGEMON_CALL_MAP_LARGE, {PAGES, PAGEMON_L2_ENTRIES - 16, FIRST, EXECUTES}, PAGEMON_WRONG_ENTRY, 0, 0}, /* the last one is a page */
+    {PAGEMON_CALL_MAP_LARGE, {PAGES, 16, FIRST, EXECUTES}, PAGEMON_ACCEPTED, 0, 0},                         /* all are marked */
+    {PAGEMON_CALL_FETCH, {0x00018FFF}, PAGEMON_ACCEPTED, 0x1E, 0},
+    {PAGEMON_CALL_READ, {0x0001FFFF}, PAGEMON_ACCEPTED, 0, 0},
+    {PAGEMON_CALL_UNMAP_L2, {PAGES, 31}, PAGEMON_WRONG_ENTRY, 0, 0},
+    {PAGEMON_CALL_UNMAP_LARGE, {PAGES, 31}, PAGEMON_MISALIGNED, 0, 0},
+    {PAGEMON_CALL_UNMAP_LARGE, {PAGES, 16}, PAGEMON_ACCEPTED, 0, 0},
+    {PAGEMON_CALL_UNMAP_LARGE, {PAGES, 16}, PAGEMON_WRONG_ENTRY, 0, 0},
+    {PAGEMON_CALL_FREE_L2, {PAGES}, PAGEMON_IN_USE, 0, 0},
+    {PAGEMON_CALL_UNMAP_L1, {TABLE, 0}, PAGEMON_ACCEPTED, 0, 0},
+    {PAGEMON_CALL_UNMAP_L1, {TABLE, PAGEMON_L1_ENTRIES - 1}, PAGEMON_ACCEPTED, 0, 0},
+    {PAGEMON_CALL_FREE_L2, {PAGES}, PAGEMON_ACCEPTED, 0, 0},
+    {PAGEMON_CALL_FREE_L1, {TABLE}, PAGEMON_IN_USE, 0, 0},
+    {PAGEMON_CALL_CREATE_L1, {OTHER}, PAGEMON_ACCEPTED, 0, 0},
+    {PAGEMON_CALL_SWITCH, {OTHER}, PAGEMON_ACCEPTED, 0, 0},
+    {PAGEMON_CALL_FREE_L1, {TABLE}, PAGEMON_ACCEPTED, 0, 0},
+    {PAGEMON_CALL_MAP_L1, {OTHER, PAGEMON_L1_ENTRIES - 1, FIRST, WRITES}, PAGEMON_ACCEPTED, 0, 0}, /* the last word of the memory */
+    {PAGEMON_CALL_WRITE, {0xFFF00000, 77}, PAGEMON_ACCEPTED, 0, 0},                               /* and the first byte */
+    {PAGEMON_CALL_READ, {0xFFF00000}, PAGEMON_ACCEPTED, 77, 0},
 };
 
 enum { STEPS = sizeof script / sizeof script[0] };
@@ -158,7 +159,7 @@ static void put_memory(uint8_t *memory)
     memset(memory, 0, MEMORY_BYTES);
     memset(block(memory, CODE), 0x1E, PAGEMON_BLOCK_BYTES);
     put_word(block(memory, PAGES), CODE << 12 | 0x02E);
-    put_word(block(memory, LATER_PAGES), CODE << 12 | 0x02E);
+    put_word(block(memory, LATER_PAGES), DATA << 12 | 0x02E);
     put_word(block(memory, LATER_TABLE), FIRST << 12 | 0x80E);
     put_word(block(memory, PAGES) + 4 * (PAGEMON_L2_ENTRIES - 1), (FIRST + BLOCKS - 1) << 12 | 0x02F);
     put_word(block(memory, TABLE) + 4 * (PAGEMON_L1_ENTRIES - 1), PAGES << 12 | 0xC01);
@@ -203,24 +204,33 @@ typedef uint32_t obey(const struct lent *lent, const struct step *step, uint8_t 
 #define REGION lent->memory, lent->memory_length, lent->ledger, lent->ledger_length
 #define IMAGE lent->golden, lent->golden_length
 
+/* Where create and map store the number of blocks hashed, and what stands there before. */
+static uint32_t plain_hashed, *hashed = &plain_hashed;
+static const uint32_t OLD_NUMBER = 0xA7A7A7A7;
+
+/* In the place of a call byte, which forget has not. */
+enum { FORGET = 0 };
+
 static uint32_t by_call(const struct lent *lent, const struct step *step, uint8_t *byte)
 {
     const uint32_t *a = step->arguments;
+    *hashed = OLD_NUMBER;
     switch (step->call) {
+    case FORGET: return pagemon_forget(REGION, a[0], a[1]);
     case PAGEMON_CALL_BEGIN: return pagemon_begin(REGION, a[0]);
-    case PAGEMON_CALL_CREATE_L1: return pagemon_create_l1(REGION, IMAGE, a[0]);
-    case PAGEMON_CALL_CREATE_L2: return pagemon_create_l2(REGION, IMAGE, a[0]);
+    case PAGEMON_CALL_CREATE_L1: return pagemon_create_l1(REGION, IMAGE, a[0], hashed);
+    case PAGEMON_CALL_CREATE_L2: return pagemon_create_l2(REGION, IMAGE, a[0], hashed);
     case PAGEMON_CALL_FREE_L1: return pagemon_free_l1(REGION, a[0]);
     case PAGEMON_CALL_FREE_L2: return pagemon_free_l2(REGION, a[0]);
-    case PAGEMON_CALL_MAP_L1: return pagemon_map_l1(REGION, IMAGE, a[0], a[1], a[2], a[3]);
-    case PAGEMON_CALL_MAP_L2: return pagemon_map_l2(REGION, IMAGE, a[0], a[1], a[2], a[3]);
+    case PAGEMON_CALL_MAP_L1: return pagemon_map_l1(REGION, IMAGE, a[0], a[1], a[2], a[3], hashed);
+    case PAGEMON_CALL_MAP_L2: return pagemon_map_l2(REGION, IMAGE, a[0], a[1], a[2], a[3], hashed);
     case PAGEMON_CALL_LINK: return pagemon_link(REGION, a[0], a[1], a[2], a[3]);
     case PAGEMON_CALL_UNMAP_L1: return pagemon_unmap_l1(REGION, a[0], a[1]);
     case PAGEMON_CALL_UNMAP_L2: return pagemon_unmap_l2(REGION, a[0], a[1]);
     case PAGEMON_CALL_SWITCH: return pagemon_switch(REGION, a[0]);
     case PAGEMON_CALL_READ: return pagemon_read(REGION, a[0], byte);
     case PAGEMON_CALL_WRITE: return pagemon_write(REGION, a[0], a[1]);
-    case PAGEMON_CALL_MAP_LARGE: return pagemon_map_large(REGION, IMAGE, a[0], a[1], a[2], a[3]);
+    case PAGEMON_CALL_MAP_LARGE: return pagemon_map_large(REGION, IMAGE, a[0], a[1], a[2], a[3], hashed);
     case PAGEMON_CALL_UNMAP_LARGE: return pagemon_unmap_large(REGION, a[0], a[1]);
     default: return pagemon_fetch(REGION, a[0], byte);
     }
@@ -246,11 +256,19 @@ static bool takes_image(uint8_t call)
            || call == PAGEMON_CALL_MAP_LARGE;
 }
 
+/* A create or map sets the number, also when it is refused; no other call does. */
+static void expect_hashed(const struct step *step, uint32_t answer, const char *where)
+{
+    uint32_t expected = answer == PAGEMON_ACCEPTED ? step->hashed : 0;
+    expect(*hashed == (takes_image(step->call) ? expected : OLD_NUMBER), "another number of blocks hashed by call", where, step->call);
+}
+
 static void script_by_calls(const struct buffers *b)
 {
     const struct lent lent = {b->at[MEMORY], MEMORY_BYTES, b->at[LEDGER], LEDGER_BYTES, b->at[GOLDEN], GOLDEN_BYTES};
     for (size_t i = 0; i < STEPS; i++) {
         uint32_t answer = by_call(&lent, &script[i], b->at[BYTES] + i);
+        expect_hashed(&script[i], answer, "the script");
         memcpy(b->at[ANSWERS] + sizeof answer * i, &answer, sizeof answer);
         if (!gives_byte(script[i].call)) {
             b->at[BYTES][i] = 0;
@@ -325,8 +343,13 @@ struct room {
 
 static struct room rooms[BUFFERS];
 
+/* A page for the number of blocks hashed, which stands at its start or at its end. */
+static uint8_t *hashed_room;
+
 static void make_rooms(void)
 {
+    hashed_room = untouchable(3 * PAGE) + PAGE;
+    allow(hashed_room, PAGE, PROT_READ | PROT_WRITE);
     for (int i = 0; i < BUFFERS; i++) {
         rooms[i].size = (lengths[i] + 8 + PAGE - 1) / PAGE * PAGE;
         rooms[i].start = untouchable(rooms[i].size + 2 * PAGE) + PAGE;
@@ -341,20 +364,45 @@ static void expect_canaries(const uint8_t *from, const uint8_t *to, const char *
     }
 }
 
+static uint8_t *mark(uint8_t *ledger, size_t block)
+{
+    return ledger + PAGEMON_LEDGER_HEAD_BYTES + PAGEMON_LEDGER_RECORD_BYTES * block + 16;
+}
+
+/* All blocks are marked and forgotten: the ledger is then as in plain buffers, but for the marks. */
+static void forget_all(const struct buffers *b, const char *where, size_t number)
+{
+    for (size_t i = 0; i < BLOCKS; i++) {
+        put_word(mark(b->at[LEDGER], i), PAGEMON_MARKED);
+    }
+    expect(pagemon_forget(b->at[MEMORY], MEMORY_BYTES, b->at[LEDGER], LEDGER_BYTES, FIRST, BLOCKS) == PAGEMON_ACCEPTED, "forget", where, number);
+    for (size_t i = 0; i < BLOCKS; i++) {
+        expect(memcmp(mark(b->at[LEDGER], i), "\0\0\0\0", 4) == 0, "a mark after forget", where, number);
+        memcpy(mark(b->at[LEDGER], i), mark(plain.at[LEDGER], i), 4);
+    }
+    expect_plain(b, where, number);
+}
+
 /* The script in the rooms: all is left as in plain buffers, and the rest of the rooms as it was. */
 static void script_in_rooms(const struct buffers *b, void (*script_by)(const struct buffers *), const char *where, size_t number)
 {
     for (int i = 0; i < BUFFERS; i++) {
         memset(rooms[i].start, CANARY, rooms[i].size);
     }
+    memset(hashed_room, CANARY, PAGE);
+    hashed = (uint32_t *)(void *)(hashed_room + (number % 2 == 0 ? 0 : PAGE - sizeof *hashed));
     put_all(b);
     trying = where;
     script_by(b);
     expect_plain(b, where, number);
+    forget_all(b, where, number);
     for (int i = 0; i < BUFFERS; i++) {
         expect_canaries(rooms[i].start, b->at[i], where, number);
         expect_canaries(b->at[i] + lengths[i], rooms[i].start + rooms[i].size, where, number);
     }
+    expect_canaries(hashed_room, (uint8_t *)hashed, where, number);
+    expect_canaries((uint8_t *)(hashed + 1), hashed_room + PAGE, where, number);
+    hashed = &plain_hashed;
 }
 
 static void both_ways(const struct buffers *b, const char *where, size_t number)
@@ -438,36 +486,38 @@ static void digests(void)
 
 /* Tables of every kind, of which one of each level can be freed. */
 static const struct step setup[] = {
-    {PAGEMON_CALL_BEGIN, {FIRST}, 0, 0},
-    {PAGEMON_CALL_CREATE_L2, {PAGES}, 0, 0},
-    {PAGEMON_CALL_CREATE_L1, {TABLE}, 0, 0},
-    {PAGEMON_CALL_CREATE_L2, {SPARE}, 0, 0},
-    {PAGEMON_CALL_CREATE_L1, {OTHER}, 0, 0},
-    {PAGEMON_CALL_SWITCH, {TABLE}, 0, 0},
-    {PAGEMON_CALL_LINK, {TABLE, 0, PAGES, 0}, 0, 0},
-    {PAGEMON_CALL_MAP_L2, {PAGES, 5, WRITTEN, WRITES}, 0, 0},
-    {PAGEMON_CALL_MAP_LARGE, {PAGES, 32, FIRST, READS}, 0, 0},
+    {PAGEMON_CALL_BEGIN, {FIRST}, 0, 0, 0},
+    {PAGEMON_CALL_CREATE_L2, {PAGES}, 0, 0, 0},
+    {PAGEMON_CALL_CREATE_L1, {TABLE}, 0, 0, 0},
+    {PAGEMON_CALL_CREATE_L2, {SPARE}, 0, 0, 0},
+    {PAGEMON_CALL_CREATE_L1, {OTHER}, 0, 0, 0},
+    {PAGEMON_CALL_SWITCH, {TABLE}, 0, 0, 0},
+    {PAGEMON_CALL_LINK, {TABLE, 0, PAGES, 0}, 0, 0, 0},
+    {PAGEMON_CALL_MAP_L2, {PAGES, 5, WRITTEN, WRITES}, 0, 0, 0},
+    {PAGEMON_CALL_MAP_LARGE, {PAGES, 32, FIRST, READS}, 0, 0, 0},
 };
 
 /* Each call, as it is accepted there. Those that take an image have something to execute. */
 static const struct step each_call[] = {
-    {PAGEMON_CALL_BEGIN, {FIRST}, 0, 0},
-    {PAGEMON_CALL_CREATE_L1, {LATER_TABLE}, 0, 0},
-    {PAGEMON_CALL_CREATE_L2, {LATER_PAGES}, 0, 0},
-    {PAGEMON_CALL_FREE_L1, {OTHER}, 0, 0},
-    {PAGEMON_CALL_FREE_L2, {SPARE}, 0, 0},
-    {PAGEMON_CALL_MAP_L1, {TABLE, 4, FIRST, EXECUTES}, 0, 0},
-    {PAGEMON_CALL_MAP_L2, {PAGES, 9, DATA, EXECUTES}, 0, 0},
-    {PAGEMON_CALL_LINK, {TABLE, 1, PAGES, 1}, 0, 0},
-    {PAGEMON_CALL_UNMAP_L1, {TABLE, PAGEMON_L1_ENTRIES - 1}, 0, 0},
-    {PAGEMON_CALL_UNMAP_L2, {PAGES, 0}, 0, 0},
-    {PAGEMON_CALL_SWITCH, {OTHER}, 0, 0},
-    {PAGEMON_CALL_READ, {0xFFFFFFFF}, 0, 0x5A},
-    {PAGEMON_CALL_WRITE, {0x00005000, 65}, 0, 0},
-    {PAGEMON_CALL_FETCH, {0x00000123}, 0, 0x1E},
-    {PAGEMON_CALL_MAP_LARGE, {PAGES, 16, FIRST, EXECUTES}, 0, 0},
-    {PAGEMON_CALL_UNMAP_LARGE, {PAGES, 32}, 0, 0},
+    {PAGEMON_CALL_BEGIN, {FIRST}, 0, 0, 0},
+    {PAGEMON_CALL_CREATE_L1, {LATER_TABLE}, 0, 0, 255},
+    {PAGEMON_CALL_CREATE_L2, {LATER_PAGES}, 0, 0, 1},
+    {PAGEMON_CALL_FREE_L1, {OTHER}, 0, 0, 0},
+    {PAGEMON_CALL_FREE_L2, {SPARE}, 0, 0, 0},
+    {PAGEMON_CALL_MAP_L1, {TABLE, 4, FIRST, EXECUTES}, 0, 0, 255},
+    {PAGEMON_CALL_MAP_L2, {PAGES, 9, DATA, EXECUTES}, 0, 0, 1},
+    {PAGEMON_CALL_LINK, {TABLE, 1, PAGES, 1}, 0, 0, 0},
+    {PAGEMON_CALL_UNMAP_L1, {TABLE, PAGEMON_L1_ENTRIES - 1}, 0, 0, 0},
+    {PAGEMON_CALL_UNMAP_L2, {PAGES, 0}, 0, 0, 0},
+    {PAGEMON_CALL_SWITCH, {OTHER}, 0, 0, 0},
+    {PAGEMON_CALL_READ, {0xFFFFFFFF}, 0, 0x5A, 0},
+    {PAGEMON_CALL_WRITE, {0x00005000, 65}, 0, 0, 0},
+    {PAGEMON_CALL_FETCH, {0x00000123}, 0, 0x1E, 0},
+    {PAGEMON_CALL_MAP_LARGE, {PAGES, 16, FIRST, EXECUTES}, 0, 0, 15},
+    {PAGEMON_CALL_UNMAP_LARGE, {PAGES, 32}, 0, 0, 0},
 };
+
+static const struct step forget = {FORGET, {FIRST, BLOCKS}, 0, 0, 0};
 
 enum { SETUP = sizeof setup / sizeof setup[0], CALLS = sizeof each_call / sizeof each_call[0] };
 
@@ -502,6 +552,9 @@ static void one_call(obey *obey, const struct lent *lent, const struct step *ste
     memcpy(lent_golden, golden, sizeof golden);
     trying = where;
     expect(obey(lent, step, &byte) == answer, "another answer of call", where, step->call);
+    if (obey == by_call) {
+        expect_hashed(step, answer, where);
+    }
     if (gives_byte(step->call)) {
         expect(byte == (answer == PAGEMON_ACCEPTED ? step->byte : 0), "another byte of call", where, step->call);
     }
@@ -518,6 +571,7 @@ static void every_call(const struct lent *lent, uint32_t with_image, uint32_t ot
         one_call(by_call, lent, &each_call[i], answer, where);
         one_call(by_run, lent, &each_call[i], answer, where);
     }
+    one_call(by_call, lent, &forget, others, where);
 }
 
 /* More than 2^33 bytes that must not be touched. */
@@ -586,8 +640,8 @@ static void long_image(void)
 /* Buffers of length 0, whose pointer is NULL or must not be followed. */
 static void empty_buffers(uint8_t *nowhere, const char *where)
 {
-    const struct step reads[] = {{PAGEMON_CALL_MAP_L1, {TABLE, 4, FIRST, READS}, 0, 0}, {PAGEMON_CALL_MAP_L2, {PAGES, 9, DATA, READS}, 0, 0},
-                                 {PAGEMON_CALL_CREATE_L2, {DATA}, 0, 0}, {PAGEMON_CALL_MAP_LARGE, {PAGES, 16, FIRST, READS}, 0, 0}};
+    const struct step reads[] = {{PAGEMON_CALL_MAP_L1, {TABLE, 4, FIRST, READS}, 0, 0, 0}, {PAGEMON_CALL_MAP_L2, {PAGES, 9, DATA, READS}, 0, 0, 0},
+                                 {PAGEMON_CALL_CREATE_L2, {DATA}, 0, 0, 0}, {PAGEMON_CALL_MAP_LARGE, {PAGES, 16, FIRST, READS}, 0, 0, 0}};
     struct lent lent = right;
     lent.golden = nowhere, lent.golden_length = 0;
     every_call(&lent, PAGEMON_UNSIGNED, PAGEMON_ACCEPTED, where);

@@ -32,6 +32,11 @@ static void put_word(uint8_t *at, uint32_t value)
     }
 }
 
+static uint8_t *mark(uint32_t block)
+{
+    return ledger + PAGEMON_LEDGER_HEAD_BYTES + PAGEMON_LEDGER_RECORD_BYTES * block + 16;
+}
+
 static void begin(void)
 {
     memset(ledger, 0x77, sizeof ledger);
@@ -78,7 +83,11 @@ static void accesses(void)
     put_word(pages + 4 * (512 + 0x45), (FIRST + 10) * 4096u + 0x03F);
     put_word(pages + 4 * (512 + 0x46), (FIRST + 11) * 4096u + 0x02E);
     put_word(pages + 4 * (512 + 0x47), (FIRST + BLOCKS) * 4096u + 0x02E);
+    for (uint32_t block = 9; block <= 11; block++) {
+        put_word(mark(block), PAGEMON_MARKED);
+    }
     expect(pagemon_write(memory, sizeof memory, ledger, sizeof ledger, 0x12345678, 0x1C3) == PAGEMON_ACCEPTED, "write");
+    expect(word(mark(9)) == PAGEMON_MARKED && word(mark(10)) == 0 && word(mark(11)) == PAGEMON_MARKED, "the mark of the block written");
     expect(memory[10 * PAGEMON_BLOCK_BYTES + 0x678] == 0xC3, "the byte written");
     expect(read_byte(0x12345678, &byte) == PAGEMON_ACCEPTED && byte == 0xC3, "read");
     expect(fetch_byte(0x12345678, &byte) == PAGEMON_RIGHT_LACKING && byte == 0, "fetch without the right");
@@ -86,6 +95,7 @@ static void accesses(void)
     expect(fetch_byte(0x12346000, &byte) == PAGEMON_ACCEPTED && byte == 0x99, "fetch");
     expect(pagemon_write(memory, sizeof memory, ledger, sizeof ledger, 0x12346000, 1) == PAGEMON_RIGHT_LACKING, "write without the right");
     expect(memory[11 * PAGEMON_BLOCK_BYTES] == 0x99, "a refused write stored");
+    expect(word(mark(11)) == PAGEMON_MARKED, "a refused write cleared a mark");
     expect(read_byte(0x12347000, &byte) == PAGEMON_BROKEN_WALK && byte == 0, "read outside the region");
     put_word(ledger + 4, PAGEMON_NO_TABLE);
     expect(read_byte(0x12345678, &byte) == PAGEMON_NO_ACTIVE_TABLE && byte == 0, "read without a table");

@@ -17,12 +17,23 @@ static void expect(bool holds, const char *what)
     }
 }
 
+/* What the last create or map gave beside its answer; something else before it. Nothing is executed here. */
+static uint32_t hashed = 0xA7A7A7A7;
+
 static void expect_answer(uint32_t answer, uint32_t expected, const char *what)
 {
     if (answer != expected) {
         printf("pagemon.c: %s answered %u, expected %u\n", what, (unsigned)answer, (unsigned)expected);
         failures++;
     }
+}
+
+/* The answer of a create or map, which has hashed nothing. */
+static void expect_unhashed(uint32_t answer, uint32_t expected, const char *what)
+{
+    expect_answer(answer, expected, what);
+    expect(hashed == 0, what);
+    hashed = 0xA7A7A7A7;
 }
 
 /* Memory and ledger between canaries, and no golden image. */
@@ -63,20 +74,20 @@ static void sample(void)
     uint8_t byte = 0xA7;
     zeros();
     expect_answer(pagemon_begin(memory, memory_length, ledger, ledger_length, 0), PAGEMON_ACCEPTED, "begin");
-    expect_answer(pagemon_create_l1(memory, memory_length, ledger, ledger_length, golden, 0, 0), PAGEMON_ACCEPTED, "create L1");
+    expect_unhashed(pagemon_create_l1(memory, memory_length, ledger, ledger_length, golden, 0, 0, &hashed), PAGEMON_ACCEPTED, "create L1");
     expect_answer(pagemon_switch(memory, memory_length, ledger, ledger_length, 0), PAGEMON_ACCEPTED, "switch");
-    expect_answer(pagemon_create_l2(memory, memory_length, ledger, ledger_length, golden, 0, 4), PAGEMON_ACCEPTED, "create L2");
+    expect_unhashed(pagemon_create_l2(memory, memory_length, ledger, ledger_length, golden, 0, 4, &hashed), PAGEMON_ACCEPTED, "create L2");
     expect_answer(pagemon_link(memory, memory_length, ledger, ledger_length, 0, 0, 4, 0), PAGEMON_ACCEPTED, "link");
-    expect_answer(pagemon_map_l2(memory, memory_length, ledger, ledger_length, golden, 0, 4, 5, 8, PAGEMON_READ | PAGEMON_WRITE),
-                  PAGEMON_ACCEPTED, "map L2");
+    expect_unhashed(pagemon_map_l2(memory, memory_length, ledger, ledger_length, golden, 0, 4, 5, 8, PAGEMON_READ | PAGEMON_WRITE, &hashed),
+                    PAGEMON_ACCEPTED, "map L2");
     expect_answer(pagemon_write(memory, memory_length, ledger, ledger_length, 0x5000, 65), PAGEMON_ACCEPTED, "write");
     expect_answer(pagemon_read(memory, memory_length, ledger, ledger_length, 0x5000, &byte), PAGEMON_ACCEPTED, "read");
     expect(byte == 65, "the byte read is not 65");
     byte = 0xA7;
     expect_answer(pagemon_fetch(memory, memory_length, ledger, ledger_length, 0x5000, &byte), PAGEMON_RIGHT_LACKING, "fetch");
     expect(byte == 0, "a refused fetch gave another byte than 0");
-    expect_answer(pagemon_map_l2(memory, memory_length, ledger, ledger_length, golden, 0, 4, 6, 8, PAGEMON_READ | PAGEMON_EXECUTE),
-                  PAGEMON_CLASH, "map L2 to execute");
+    expect_unhashed(pagemon_map_l2(memory, memory_length, ledger, ledger_length, golden, 0, 4, 6, 8, PAGEMON_READ | PAGEMON_EXECUTE, &hashed),
+                    PAGEMON_CLASH, "map L2 to execute");
     expect_answer(pagemon_free_l2(memory, memory_length, ledger, ledger_length, 4), PAGEMON_IN_USE, "free L2");
 }
 
@@ -95,6 +106,7 @@ static void left_by_sample(void)
         expect(word(record + 4) == (block == 8), "a w");
         expect(word(record + 8) == 0, "an x");
         expect(word(record + 12) == (block == 4), "an l");
+        expect(word(record + 16) == 0, "a mark");
     }
     expect(canaries(memory_place, memory_length), "a byte outside of memory was changed");
     expect(canaries(ledger_place, ledger_length), "a byte outside of the ledger was changed");
@@ -105,12 +117,12 @@ static void a_large_page(void)
 {
     const uint8_t *run = memory + 4 * PAGEMON_BLOCK_BYTES + 4 * 16;
     uint8_t byte = 0xA7;
-    expect_answer(pagemon_map_large(memory, memory_length, ledger, ledger_length, golden, 0, 4, 16, 0, PAGEMON_READ | PAGEMON_WRITE),
-                  PAGEMON_UNFIT_TARGET, "map large over tables to write");
-    expect_answer(pagemon_map_large(memory, memory_length, ledger, ledger_length, golden, 0, 4, 0, 0, PAGEMON_READ), PAGEMON_WRONG_ENTRY,
-                  "map large over a page");
-    expect_answer(pagemon_map_large(memory, memory_length, ledger, ledger_length, golden, 0, 4, 16, 0, PAGEMON_READ), PAGEMON_ACCEPTED,
-                  "map large");
+    expect_unhashed(pagemon_map_large(memory, memory_length, ledger, ledger_length, golden, 0, 4, 16, 0, PAGEMON_READ | PAGEMON_WRITE, &hashed),
+                    PAGEMON_UNFIT_TARGET, "map large over tables to write");
+    expect_unhashed(pagemon_map_large(memory, memory_length, ledger, ledger_length, golden, 0, 4, 0, 0, PAGEMON_READ, &hashed), PAGEMON_WRONG_ENTRY,
+                    "map large over a page");
+    expect_unhashed(pagemon_map_large(memory, memory_length, ledger, ledger_length, golden, 0, 4, 16, 0, PAGEMON_READ, &hashed), PAGEMON_ACCEPTED,
+                    "map large");
     for (size_t i = 0; i < PAGEMON_LARGE_BLOCKS; i++) {
         expect(word(run + 4 * i) == 0x0000802D, "a large page's word");
     }
@@ -127,15 +139,18 @@ static void a_large_page(void)
 /* The calls that the sample leaves out. */
 static void the_other_calls(void)
 {
-    expect_answer(pagemon_map_l1(memory, memory_length, ledger, ledger_length, golden, 0, 0, 1, 0, PAGEMON_READ), PAGEMON_UNFIT_TARGET,
-                  "map L1");
+    expect_unhashed(pagemon_map_l1(memory, memory_length, ledger, ledger_length, golden, 0, 0, 1, 0, PAGEMON_READ, &hashed), PAGEMON_UNFIT_TARGET,
+                    "map L1");
     expect_answer(pagemon_unmap_l2(memory, memory_length, ledger, ledger_length, 4, 5), PAGEMON_ACCEPTED, "unmap L2");
     expect_answer(pagemon_unmap_l1(memory, memory_length, ledger, ledger_length, 0, 0), PAGEMON_ACCEPTED, "unmap L1");
     expect_answer(pagemon_free_l2(memory, memory_length, ledger, ledger_length, 4), PAGEMON_ACCEPTED, "free L2");
     expect_answer(pagemon_free_l1(memory, memory_length, ledger, ledger_length, 0), PAGEMON_IN_USE, "free L1 of the active table");
-    expect_answer(pagemon_create_l1(memory, memory_length, ledger, ledger_length, golden, 0, 12), PAGEMON_ACCEPTED, "create L1");
+    expect_unhashed(pagemon_create_l1(memory, memory_length, ledger, ledger_length, golden, 0, 12, &hashed), PAGEMON_ACCEPTED, "create L1");
     expect_answer(pagemon_switch(memory, memory_length, ledger, ledger_length, 12), PAGEMON_ACCEPTED, "switch");
     expect_answer(pagemon_free_l1(memory, memory_length, ledger, ledger_length, 0), PAGEMON_ACCEPTED, "free L1");
+    expect_answer(pagemon_forget(memory, memory_length, ledger, ledger_length, 0, BLOCKS), PAGEMON_ACCEPTED, "forget");
+    expect_answer(pagemon_forget(memory, memory_length, ledger, ledger_length, 0, BLOCKS + 1), PAGEMON_OUTSIDE_REGION, "forget too many");
+    expect_answer(pagemon_forget(memory, memory_length, ledger, ledger_length, 0xFFFFFFFF, 0), PAGEMON_ACCEPTED, "forget nothing");
 }
 
 static void bad_buffers(void)
@@ -145,12 +160,13 @@ static void bad_buffers(void)
     expect_answer(pagemon_begin(memory, memory_length - 1, ledger, ledger_length, 0), PAGEMON_MISFIT, "a memory that is no whole blocks");
     expect_answer(pagemon_begin(memory, memory_length, ledger, ledger_length - 1, 0), PAGEMON_MISFIT, "a short ledger");
     expect_answer(pagemon_begin(memory, memory_length, ledger, ledger_length, 255), PAGEMON_MISFIT, "a B of 255");
-    expect_answer(pagemon_map_l2(memory, memory_length, ledger, ledger_length, golden, 1, 4, 5, 8, PAGEMON_READ), PAGEMON_MISFIT,
-                  "a golden image of one byte");
-    expect_answer(pagemon_map_large(memory, memory_length, ledger, ledger_length, golden, 1, 4, 16, 0, PAGEMON_READ), PAGEMON_MISFIT,
-                  "a golden image of one byte for a large page");
+    expect_unhashed(pagemon_map_l2(memory, memory_length, ledger, ledger_length, golden, 1, 4, 5, 8, PAGEMON_READ, &hashed), PAGEMON_MISFIT,
+                    "a golden image of one byte");
+    expect_unhashed(pagemon_map_large(memory, memory_length, ledger, ledger_length, golden, 1, 4, 16, 0, PAGEMON_READ, &hashed), PAGEMON_MISFIT,
+                    "a golden image of one byte for a large page");
     expect_answer(pagemon_read(memory, 0, ledger, 0, 0, &byte), PAGEMON_MISFIT, "no memory");
     expect(byte == 0, "a refused read gave another byte than 0");
+    expect_answer(pagemon_forget(memory, memory_length, ledger, ledger_length - 1, 0, 1), PAGEMON_MISFIT, "forget with a short ledger");
 }
 
 int main(void)

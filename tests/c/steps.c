@@ -83,6 +83,7 @@ static size_t run(size_t records_length, size_t answers_length, size_t bytes_len
 static void obey_sample(size_t steps)
 {
     uint8_t *m = expected_memory, *l = expected_ledger;
+    uint32_t hashed = 0;
     size_t n = sizeof expected_memory, k = sizeof expected_ledger;
     memset(m, 0, n);
     memset(l, 0, k);
@@ -90,11 +91,11 @@ static void obey_sample(size_t steps)
         const uint32_t *a = sample[i].arguments;
         switch (sample[i].call) {
         case PAGEMON_CALL_BEGIN: pagemon_begin(m, n, l, k, a[0]); break;
-        case PAGEMON_CALL_CREATE_L1: pagemon_create_l1(m, n, l, k, golden, 0, a[0]); break;
-        case PAGEMON_CALL_CREATE_L2: pagemon_create_l2(m, n, l, k, golden, 0, a[0]); break;
+        case PAGEMON_CALL_CREATE_L1: pagemon_create_l1(m, n, l, k, golden, 0, a[0], &hashed); break;
+        case PAGEMON_CALL_CREATE_L2: pagemon_create_l2(m, n, l, k, golden, 0, a[0], &hashed); break;
         case PAGEMON_CALL_SWITCH: pagemon_switch(m, n, l, k, a[0]); break;
         case PAGEMON_CALL_LINK: pagemon_link(m, n, l, k, a[0], a[1], a[2], a[3]); break;
-        case PAGEMON_CALL_MAP_L2: pagemon_map_l2(m, n, l, k, golden, 0, a[0], a[1], a[2], a[3]); break;
+        case PAGEMON_CALL_MAP_L2: pagemon_map_l2(m, n, l, k, golden, 0, a[0], a[1], a[2], a[3], &hashed); break;
         case PAGEMON_CALL_WRITE: pagemon_write(m, n, l, k, a[0], a[1]); break;
         default: break;
         }

@@ -1,4 +1,4 @@
-//! Candidate and reference side by side: the answer, the byte given, and every byte of memory and ledger.
+//! Candidate and reference side by side: the answer, the byte and the number given, and every byte of memory and ledger.
 use crate::cases::Case;
 use crate::faults::{Fault, Seeded};
 use crate::monitor::{Call, Given, Kind, Monitor, Store, BLOCK};
@@ -62,14 +62,16 @@ impl<'a> Comparer<'a> {
 
     /// Runs one case on both and compares; the case's own expectation is held against the candidate.
     pub fn check(&mut self, case: Case) -> Outcome {
-        let Case { name, call, mut store, expected } = case;
+        let Case { name, call, mut store, expected, hashed } = case;
         let given = self.step(&name, call, &mut store)?;
-        match expected {
-            Some(answer) if answer != given.answer => {
-                Err(difference(&name, call, format!("answer {}, expected {answer}", given.answer)))
-            }
-            _ => Ok(()),
+        let (answer, number) = (expected.unwrap_or(given.answer), hashed.unwrap_or(given.hashed));
+        if answer != given.answer {
+            return Err(difference(&name, call, format!("answer {}, expected {answer}", given.answer)));
         }
+        if number != given.hashed {
+            return Err(difference(&name, call, format!("{} blocks hashed, expected {number}", given.hashed)));
+        }
+        Ok(())
     }
 
     /// Runs a call on both and compares. The store is then what the candidate left.
@@ -117,6 +119,9 @@ fn compared(given: Given, expected: Given, store: &Store, other: &Store) -> Opti
     }
     if given.byte != expected.byte {
         return Some(format!("byte {:#x}, reference {:#x}", given.byte, expected.byte));
+    }
+    if given.hashed != expected.hashed {
+        return Some(format!("{} blocks hashed, reference {}", given.hashed, expected.hashed));
     }
     let shared = Rc::ptr_eq(&store.memory, &other.memory);
     let memory = if shared { None } else { differing("memory", BLOCK, &store.memory, &other.memory) };

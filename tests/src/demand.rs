@@ -1,7 +1,8 @@
-//! Lists 7 to 12, held against every step of a list by what is told alone (lists 4 to 6). The ledger is looked at only to compare its w, x and l.
-//! Nothing is shared with the reference but SHA-256.
+//! Lists 7 to 12 and 14, held against every step of a list by what is told alone (lists 4 to 6). The ledger is looked at only to compare its w, x and l,
+//! and for its marks. Nothing is shared with the reference but SHA-256.
 use crate::hasher::digest;
 use crate::monitor::{Call, Given, Kind, Store, BLOCK};
+use std::collections::BTreeSet;
 use std::fmt;
 
 /// What an entry gives: its blocks, and write, execute or a link.
@@ -63,6 +64,11 @@ fn word(bytes: &[u8], index: usize) -> u32 {
     (0..4).map(|k| u32::from(bytes[4 * index + k]) << (8 * k)).sum()
 }
 
+/// The five words of a block's record.
+fn record(ledger: &[u8], position: usize) -> &[u8] {
+    &ledger[8 + 20 * position..28 + 20 * position]
+}
+
 /// A clause of lists that a step breaks, and how.
 pub struct Breach {
     pub clause: u32,
@@ -118,7 +124,23 @@ impl Told {
         }
     }
 
-    /// Holds a step against lists 7 to 12. `before` is the memory that the step was lent.
+    /// The blocks to which the entries of an accepted create or map give write: the first and the number of each entry's.
+    pub fn granted_to_write(&self, call: Call, memory: &[u8]) -> BTreeSet<(usize, usize)> {
+        let [block, index, ..] = call.arguments.map(|number| number as usize);
+        let (is_l1, indices) = match call.kind {
+            Kind::CreateL1 => (true, 0..4096),
+            Kind::CreateL2 => (false, 0..1024),
+            Kind::MapL1 => (true, index..index + 1),
+            Kind::MapL2 => (false, index..index + 1),
+            Kind::MapLarge => (false, index..index + 16),
+            _ => return BTreeSet::new(),
+        };
+        let table = &memory[BLOCK * (block - self.first)..];
+        let gives = |index| if is_l1 { l1_gives(word(table, index)) } else { l2_gives(table, index) };
+        indices.filter_map(gives).filter(|gives| gives.write).map(|gives| (gives.first, gives.count)).collect()
+    }
+
+    /// Holds a step against lists 7 to 12 and 14. `before` is the memory that the step was lent.
     pub fn step(&mut self, call: Call, given: Given, before: &[u8], store: &Store) -> Vec<Breach> {
         let mut held = vec![(12, answer_allowed(given))];
         if matches!(call.kind, Kind::Read | Kind::Write | Kind::Fetch) {
@@ -132,6 +154,7 @@ impl Told {
         held.push((9, self.ledger_agrees(&counts, &store.ledger)));
         held.push((7, self.never_both(&counts)));
         held.push((8, self.executable_is_signed(&counts, store)));
+        held.push((14, self.marked_is_signed(store)));
         held.into_iter().filter_map(|(clause, outcome)| outcome.err().map(|what| Breach { clause, what })).collect()
     }
 
@@ -165,7 +188,7 @@ impl Told {
 
     fn ledger_agrees(&self, counts: &[[u32; 3]], ledger: &[u8]) -> Result<(), String> {
         for (position, count) in counts.iter().enumerate() {
-            let record = &ledger[8 + 16 * position..24 + 16 * position];
+            let record = record(ledger, position);
             for which in 0..3 {
                 let kept = word(record, 1 + which);
                 if kept != count[which] {
@@ -185,6 +208,12 @@ impl Told {
     fn executable_is_signed(&self, counts: &[[u32; 3]], store: &Store) -> Result<(), String> {
         let unsigned = (0..counts.len()).find(|&position| counts[position][1] > 0 && !self.signed(position, store));
         unsigned.map_or(Ok(()), |position| Err(format!("block {position} is executable and not signed")))
+    }
+
+    fn marked_is_signed(&self, store: &Store) -> Result<(), String> {
+        let marked = (0..self.tables.len()).filter(|&position| word(record(&store.ledger, position), 4) == 1);
+        let unsigned = marked.into_iter().find(|&position| !self.signed(position, store));
+        unsigned.map_or(Ok(()), |position| Err(format!("block {position} is marked and not signed")))
     }
 
     fn signed(&self, position: usize, store: &Store) -> bool {

@@ -6,6 +6,7 @@ pub mod demand;
 pub mod faults;
 pub mod guarded;
 pub mod hasher;
+pub mod hypervisor;
 pub mod library;
 pub mod lists;
 pub mod monitor;

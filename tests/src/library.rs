@@ -40,9 +40,11 @@ impl Library {
             Access::Reads | Access::Writes => self.guard(content),
         });
         let mut byte = self.guard(&[old]);
+        let mut hashed = Guarded::new(&[u32::from_ne_bytes([old; 4])], 0);
+        let outputs = Outputs { byte: byte.pointer_mut(), hashed: hashed.pointer_mut() };
         let lent = copies.as_mut().map(|copy| Lent::from(copy.content_mut()));
         // SAFETY: every pointer is to a copy of its own.
-        let answer = unsafe { invoke(call, lent, Outputs { byte: byte.pointer_mut() }) };
+        let answer = unsafe { invoke(call, lent, outputs) };
         if let Some(left) = left(access.memory, &copies.memory, &store.memory) {
             own(&mut store.memory).copy_from_slice(left);
         }
@@ -52,8 +54,12 @@ impl Library {
         if let Some(left) = left(access.golden, &copies.golden, &store.golden) {
             store.golden.copy_from_slice(left);
         }
-        let byte = byte.guarded_content()[0];
-        Given { answer, byte: if call.kind.gives_byte() { byte } else { 0 } }
+        let (byte, hashed) = (byte.guarded_content()[0], hashed.guarded_content()[0]);
+        Given {
+            answer,
+            byte: if call.kind.gives_byte() { byte } else { 0 },
+            hashed: if call.kind.gives_hashed() { hashed } else { 0 },
+        }
     }
 }
 

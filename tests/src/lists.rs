@@ -1,24 +1,25 @@
-//! Lists of steps, drawn with an eye on what the steps before them left, with lists 7 to 12 held against every step.
+//! Lists of steps, drawn with an eye on what the steps before them left, with lists 7 to 12 and 14 held against every step.
 use crate::bytes::word;
 use crate::cases::scene::*;
 use crate::compare::{difference, Comparer, Outcome};
 use crate::demand::Told;
-use crate::monitor::{Call, Given, Kind, Monitor, BLOCK};
+use crate::hasher::digest;
+use crate::monitor::{Call, Given, Kind, Monitor, BLOCK, MARKED};
 use crate::random::Random;
 use std::collections::{BTreeSet, VecDeque};
 use Kind::*;
 
 /// Seed, blocks and steps of each list: many short ones in small regions, some in regions with room for large pages, a few with room for sections.
-fn lists() -> impl Iterator<Item = (u64, usize, usize)> {
-    let small = (0..60).map(|seed| (seed, 8 + Random::new(seed).below(20), 300));
-    let larger = (60..90).map(|seed| (seed, [48, 64, 67, 80][seed as usize % 4], 300));
-    small.chain(larger).chain((100..112).map(|seed| (seed, [260, 512, 520][seed as usize % 3], 150)))
+pub fn lists() -> impl Iterator<Item = (u64, usize, usize)> {
+    let small = (0..80).map(|seed| (seed, 8 + Random::new(seed).below(20), 400));
+    let larger = (100..150).map(|seed| (seed, [48, 64, 67, 80][seed as usize % 4], 400));
+    small.chain(larger).chain((200..216).map(|seed| (seed, [260, 512, 520][seed as usize % 3], 150)))
 }
 
 /// The pages of an L2 table that accesses go to: some at its start, and some of the three runs there.
 const PAGES: [u32; 13] = [0, 1, 2, 3, 4, 5, 16, 17, 24, 31, 32, 40, 47];
 
-/// Compares every step, and holds lists 7 to 12 against it.
+/// Compares every step, and holds lists 7 to 12 and 14 against it.
 pub fn run(comparer: &mut Comparer) -> Outcome {
     for (seed, blocks, steps) in lists() {
         let mut lister = Lister::new(seed, blocks);
@@ -35,7 +36,7 @@ pub fn run(comparer: &mut Comparer) -> Outcome {
     Ok(())
 }
 
-/// For each list, the clauses of lists 7 to 12 that the monitor breaks. It is compared with nothing.
+/// For each list, the clauses of lists 7 to 12 and 14 that the monitor breaks. It is compared with nothing.
 pub fn broken_by(monitor: &dyn Monitor) -> impl Iterator<Item = BTreeSet<u32>> + '_ {
     lists().map(|(seed, blocks, steps)| {
         let mut lister = Lister::new(seed, blocks);
@@ -54,7 +55,7 @@ pub fn broken_by(monitor: &dyn Monitor) -> impl Iterator<Item = BTreeSet<u32>> +
 /// Draws the steps of a list. The first is a begin.
 pub struct Lister {
     pub scene: Scene,
-    told: Told,
+    pub told: Told,
     random: Random,
     /// Steps that are already decided.
     plan: VecDeque<Call>,
@@ -62,12 +63,13 @@ pub struct Lister {
 
 impl Lister {
     /// A memory with data, beginnings of tables and zeros, some of it signed, if there is room sixteen signed blocks that all differ, and a ledger of
-    /// random bytes.
+    /// random bytes with many marks.
     pub fn new(seed: u64, blocks: usize) -> Lister {
         let mut random = Random::new(1000 + seed);
         let first = 256 * random.below(5) as u32;
         let mut scene = Scene::new(first, blocks);
         scene.store.ledger = random.bytes(scene.store.ledger.len());
+        scene.set_marks(random.below(blocks)..blocks, MARKED);
         for group in (0..blocks.min(40)).step_by(4) {
             put_group(&mut scene, group, &mut random);
         }
@@ -88,11 +90,11 @@ impl Lister {
         Lister { told: Told::new(scene.first, scene.blocks()), scene, random, plan }
     }
 
-    /// The next steps of the list, as a monitor obeys them.
+    /// The next steps of the list that records can say, as a monitor obeys them.
     pub fn obeyed_by(&mut self, monitor: &dyn Monitor, steps: usize) -> Vec<(Call, Given)> {
         let mut obeyed = Vec::with_capacity(steps);
         for _ in 0..steps {
-            let call = self.next();
+            let call = self.next_recorded();
             let given = monitor.perform(call, &mut self.scene.store);
             self.told.note(call, given);
             obeyed.push((call, given));
@@ -100,7 +102,17 @@ impl Lister {
         obeyed
     }
 
-    fn next(&mut self) -> Call {
+    fn next_recorded(&mut self) -> Call {
+        loop {
+            let call = self.next();
+            if call.kind.byte().is_some() {
+                return call;
+            }
+        }
+    }
+
+    #[allow(clippy::should_implement_trait)]
+    pub fn next(&mut self) -> Call {
         if let Some(call) = self.plan.pop_front() {
             return call;
         }
@@ -121,6 +133,9 @@ impl Lister {
             49..=53 => self.map_section(),
             54..=64 if self.told.tables.len() > 256 => self.map_section(),
             54..=60 => self.plan_written_table(),
+            61 | 62 => self.plan_reuse(),
+            63 => self.plan_executed_table(),
+            64 => self.forget(),
             _ => self.access(),
         };
         self.plan.push_back(call);
@@ -267,6 +282,101 @@ impl Lister {
             4 => Call::new(UnmapL2, &self.some_run()),
             _ => Call::new(UnmapL2, &[self.some(2), self.random.below(6) as u32]),
         }
+    }
+
+    /// One block or a few, at times the whole region.
+    fn forget(&mut self) -> Call {
+        let blocks = self.told.tables.len() as u32;
+        match self.random.below(4) {
+            0 => Call::new(Forget, &[self.told.first as u32, blocks]),
+            1 => Call::new(Forget, &[self.any_block(), self.random.below(4) as u32]),
+            _ => Call::new(Forget, &[self.any_block(), 1]),
+        }
+    }
+
+    /// At a page of the active table a block is executed, then written, then executed again, with a forget in between or without.
+    fn plan_reuse(&mut self) -> Call {
+        let mapped = self.mapped();
+        let pages: Vec<(u32, [u32; 2])> =
+            mapped.into_iter().filter_map(|page| Some((page, self.small_page_at(page)?))).collect();
+        if pages.is_empty() {
+            return self.access();
+        }
+        let (page, [block, index]) = self.random.one_of(&pages);
+        let target = self.some(0);
+        let byte = self.random.next() as u32 * self.random.below(2) as u32;
+        let (unmap, fetch) = (Call::new(UnmapL2, &[block, index]), Call::new(Fetch, &[page]));
+        let map = |rights: u32| Call::new(MapL2, &[block, index, target, rights]);
+        self.plan.extend([unmap, map(5), fetch, unmap, map(3), Call::new(Write, &[page, byte]), unmap]);
+        if self.random.below(4) == 0 {
+            self.plan.push_back(Call::new(Forget, &[target, 1]));
+        }
+        self.plan.extend([map(5), fetch]);
+        Call::new(Read, &[page])
+    }
+
+    /// A signed block of a table is executed and no longer, then the monitor writes into it, and it is to be executed again.
+    fn plan_executed_table(&mut self) -> Call {
+        let tables = (0..self.told.tables.len()).filter(|at| self.told.tables[*at] != 0 && self.is_signed(*at));
+        let (full, empty): (Vec<usize>, Vec<usize>) = tables.partition(|at| self.scene.entries(*at).next().is_some());
+        let position = match (full.len(), empty.len()) {
+            (0, 0) => return self.access(),
+            (0, _) => self.random.one_of(&empty),
+            _ => self.random.one_of(&full),
+        };
+        let (holder, index) = (self.some(2), self.random.below(6) as u32);
+        let (execute, remove) =
+            (Call::new(MapL2, &[holder, index, self.block(position), 5]), Call::new(UnmapL2, &[holder, index]));
+        let write = self.write_into(position);
+        self.plan.extend([remove, execute, remove, write, execute, remove]);
+        Call::new(Read, &[0])
+    }
+
+    fn is_signed(&self, position: usize) -> bool {
+        let digest = digest(&self.scene.store.memory[BLOCK * position..BLOCK * (position + 1)]);
+        self.scene.store.golden.chunks_exact(32).any(|known| known == digest)
+    }
+
+    /// A call that changes a word of this block of a table: an entry that stands there is taken away, or one comes.
+    fn write_into(&mut self, position: usize) -> Call {
+        let is_l1 = self.told.tables[position] == 1;
+        let quarter = if is_l1 { position % 4 } else { 0 };
+        let table = self.block(position - quarter);
+        let taken: Vec<usize> = self.scene.entries(position).collect();
+        if !taken.is_empty() && self.random.below(2) == 0 {
+            let index = self.random.one_of(&taken);
+            let is_large = !is_l1 && self.scene.word(position, index) & 3 == 1;
+            let index = (1024 * quarter + if is_large { index / 16 * 16 } else { index }) as u32;
+            return Call::new(
+                if is_l1 {
+                    UnmapL1
+                } else if is_large {
+                    UnmapLarge
+                } else {
+                    UnmapL2
+                },
+                &[table, index],
+            );
+        }
+        let (index, target, section) = (self.random.below(6) as u32, self.some(0), self.block(0));
+        let l1_index = 1024 * quarter as u32 + index;
+        match self.random.below(3) {
+            0 if is_l1 => Call::new(MapL1, &[table, l1_index, section, 1]),
+            _ if is_l1 => Call::new(Link, &[table, l1_index, self.some(2), 0]),
+            0 => Call::new(MapLarge, &[table, 32, self.some_sixteen(), 1]),
+            _ => Call::new(MapL2, &[table, index, target, 1]),
+        }
+    }
+
+    /// The L2 block and the index of the entry at which the walk for an address ends, if it is a small page.
+    fn small_page_at(&self, address: u32) -> Option<[u32; 2]> {
+        let memory = &self.scene.store.memory;
+        let table = self.told.switched? - self.told.first;
+        let link = word(memory, BLOCK * table + 4 * (address as usize >> 20));
+        let (block, index) = (link >> 12, 256 * (link >> 10 & 3) + (address >> 12 & 255));
+        let position = (block as usize).checked_sub(self.told.first)?;
+        let entry = word(memory, BLOCK * position + 4 * index as usize);
+        (link & 3 == 1 && entry & 2 != 0).then_some([block, index])
     }
 
     /// A switch, and then a fetch where it could be fetched before.

@@ -21,6 +21,8 @@ pub struct Outcome {
     pub answer: u32,
     /// The byte of a read or fetch, 0 for all others.
     pub byte: u8,
+    /// The number of blocks that a create or map hashed, 0 for all others.
+    pub hashed: u32,
     /// The bytes of memory that are stored, each with its place.
     pub memory: Vec<(usize, u8)>,
     /// The words of the ledger that are stored, each with the place of its first byte.
@@ -41,7 +43,7 @@ impl Outcome {
         for (at, word) in &self.ledger {
             put_word(&mut store.ledger, *at, *word);
         }
-        Given { answer: self.answer, byte: self.byte }
+        Given { answer: self.answer, byte: self.byte, hashed: self.hashed }
     }
 }
 

@@ -1,18 +1,18 @@
-//! Lists 7 to 12 find unsafe monitors by themselves: each monitor here is compared with nothing.
+//! Lists 7 to 12 and 14 find unsafe monitors by themselves: each monitor here is compared with nothing.
 use std::collections::BTreeSet;
 use tests::faults::{self, Seeded};
 use tests::lists;
 use tests::reference::Reference;
 
 /// Faults, each with the clauses that it breaks in the first list in which it breaks any. Every clause is broken alone by one of them.
-const UNSAFE: [(&str, &[u32]); 65] = [
-    ("create_l2: 11 is not tested", &[7]),
-    ("create_l2: 11 compares new entries with the old counters only", &[7, 8, 11]),
+const UNSAFE: [(&str, &[u32]); 92] = [
+    ("create_l2: 11 is not tested", &[7, 11]),
+    ("create_l2: 11 compares new entries with the old counters only", &[7, 11]),
     ("map_l2: write onto x above 0 is taken", &[7]),
     ("map_l2: execute onto w above 0 is taken", &[7]),
-    ("map_l2: the holder may be executed", &[8]),
-    ("map_l2: 12 is not tested", &[8]),
-    ("create_l2: 12 is not tested", &[8]),
+    ("map_l2: the holder may be executed", &[8, 14]),
+    ("map_l2: 12 is not tested", &[8, 11, 14]),
+    ("create_l2: 12 is not tested", &[8, 14]),
     ("map_l2: 7 is not tested", &[8]),
     ("begin: begin keeps w", &[9]),
     ("begin: begin keeps x", &[9]),
@@ -20,18 +20,18 @@ const UNSAFE: [(&str, &[u32]); 65] = [
     ("map_l2: 11 is not tested", &[9]),
     ("unmap_l2: no counter is changed", &[9]),
     ("free_l2: no counter is changed", &[9]),
-    ("create_l2: no counter is changed", &[9]),
-    ("map_l2: no counter is changed", &[9, 12]),
+    ("create_l2: no counter is changed", &[8, 9, 10, 11, 12]),
+    ("map_l2: no counter is changed", &[8, 9, 10, 11, 12]),
     ("map_l1: a section counts on its first block", &[9]),
-    ("link: l is not changed", &[9]),
-    ("map_l2: a writable target may have any type", &[9, 10]),
-    ("write: write needs read only", &[8, 10, 11]),
+    ("link: l is not changed", &[9, 11, 12]),
+    ("map_l2: a writable target may have any type", &[10, 12]),
+    ("write: write needs read only", &[8]),
     ("fetch: the byte given is 0", &[11]),
     ("fetch: fetch needs read only", &[11]),
     ("fetch: the walk takes the wrong L2 index", &[11]),
-    ("begin: begin keeps the active word", &[10, 11]),
+    ("begin: begin keeps the active word", &[11]),
     ("switch: a switch from another table stores nothing", &[11]),
-    ("free_l1: 6 is not tested", &[12]),
+    ("free_l1: 6 is not tested", &[11]),
     ("create_l1: a counter of 2 is refused", &[12]),
     ("create_l2: a counter of 2 is refused", &[12]),
     ("free_l1: a counter that ends at 0 is refused", &[12]),
@@ -44,26 +44,26 @@ const UNSAFE: [(&str, &[u32]); 65] = [
     ("read: a fault on the walk gives 24", &[12]),
     ("write: a fault on the walk gives 24", &[12]),
     ("fetch: a fault on the walk gives 24", &[12]),
-    ("map_large: 11 looks at the first of several blocks", &[7]),
-    ("map_large: 12 looks at the first of several blocks", &[8]),
+    ("map_large: 11 looks at the first of several blocks", &[7, 11]),
+    ("map_large: 12 looks at the first of several blocks", &[8, 14]),
     ("map_large: the first of several blocks alone must be D", &[10]),
     ("map_large: 7 is not tested", &[8]),
-    ("map_large: the first of sixteen counters is changed", &[9, 12]),
+    ("map_large: the first of sixteen counters is changed", &[7, 9, 10, 11, 12]),
     ("unmap_large: the first of sixteen counters is changed", &[9]),
-    ("create_l2: each entry of a large page counts on its first block", &[7, 9, 12]),
-    ("map_large: one of sixteen words is written", &[9]),
+    ("create_l2: each entry of a large page counts on its first block", &[7, 9]),
+    ("map_large: one of sixteen words is written", &[12]),
     ("unmap_large: one of sixteen words is written", &[12]),
     ("map_large: 8 looks at the first of the sixteen entries", &[9]),
     ("map_l2: an entry of a large page can be mapped over", &[12]),
-    ("unmap_l2: unmap L2 takes away an entry of a large page", &[9]),
-    ("create_l2: a run is a fault", &[7, 9, 12]),
+    ("unmap_l2: unmap L2 takes away an entry of a large page", &[12]),
+    ("create_l2: a run is a fault", &[7, 9]),
     ("create_l2: a lone entry is accepted", &[12]),
     ("create_l2: a run's last entry is not compared", &[9]),
     ("create_l2: 11 passes over blocks that only a large page executes", &[7]),
     ("fetch: each entry of a large page counts on its first block", &[11]),
     ("fetch: XN of a large page is ignored", &[11]),
     ("fetch: the position in a large page is counted from its end", &[11]),
-    ("write: bits 15..12 of the address are added to a large page's own block", &[9, 10]),
+    ("write: bits 15..12 of the address are added to a large page's own block", &[10]),
     ("write: each entry of a large page counts on the next one's block", &[10]),
     ("read: a run is not accepted", &[12]),
     ("write: a run is not accepted", &[12]),
@@ -71,6 +71,33 @@ const UNSAFE: [(&str, &[u32]); 65] = [
     ("map_large: a counter of 2 is refused", &[12]),
     ("unmap_large: a counter that ends at 0 is refused", &[12]),
     ("free_l2: the first entry of a large page alone counts", &[9]),
+    ("begin: begin keeps the marks", &[8, 11, 14]),
+    ("begin: begin keeps the last mark", &[8, 11, 14]),
+    ("begin: begin marks all blocks", &[8, 11, 14]),
+    ("create_l2: the table is marked", &[14]),
+    ("map_l2: the mark of the next block is believed", &[8, 14]),
+    ("map_l2: the mark of the block before is believed", &[8, 14]),
+    ("map_l2: a map to read marks the target", &[14]),
+    ("map_large: a map to read marks the target", &[8, 14]),
+    ("map_large: one marked block is enough for all", &[8, 11, 14]),
+    ("map_l1: a map to read marks the target", &[14]),
+    ("map_l2: the holder keeps its mark", &[14]),
+    ("map_large: the holder keeps its mark", &[8, 14]),
+    ("unmap_large: the holder keeps its mark", &[8, 14]),
+    ("link: the holder keeps its mark", &[8, 14]),
+    ("link: the table's first block is unmarked", &[8, 14]),
+    ("map_l2: the holder is marked", &[14]),
+    ("link: the holder is marked", &[8, 14]),
+    ("unmap_l2: the holder is marked", &[14]),
+    ("unmap_l1: the holder is marked", &[14]),
+    ("unmap_large: the holder is marked", &[14]),
+    ("map_l2: the block after the holder is unmarked", &[14]),
+    ("map_l2: the target is unmarked in place of the holder", &[14]),
+    ("write: a write keeps the mark", &[8, 11, 14]),
+    ("write: a write clears the mark of the next block", &[8, 11, 14]),
+    ("write: a write clears the mark of the L1 table", &[8, 11, 14]),
+    ("write: a write of the first byte clears the mark of the block before", &[8, 11, 14]),
+    ("forget: forget marks", &[14]),
 ];
 
 fn monitor(fault: &str) -> Seeded {
@@ -83,7 +110,8 @@ fn unsafe_monitors_are_found() {
         let broken = lists::broken_by(&monitor(fault)).find(|broken| !broken.is_empty()).unwrap_or_default();
         assert_eq!(broken, BTreeSet::from_iter(clauses.iter().copied()), "{fault}");
     }
-    assert!((7..=12).all(|clause| UNSAFE.iter().any(|(_, clauses)| *clauses == [clause])));
+    let clauses = (7..=12).chain([14]);
+    assert!(clauses.into_iter().all(|clause| UNSAFE.iter().any(|(_, clauses)| *clauses == [clause])));
 }
 
 /// Faults that no list shows by anything but an answer of 13 or 24.

@@ -15,6 +15,22 @@ fn answer(scene: &mut Scene, kind: Kind, arguments: &[u32]) -> u32 {
     Reference::new().perform(Call::new(kind, arguments), &mut scene.store).answer
 }
 
+/// The answer, and the number of blocks hashed.
+fn hashed(scene: &mut Scene, kind: Kind, arguments: &[u32]) -> (u32, u32) {
+    let Given { answer, hashed, .. } = Reference::new().perform(Call::new(kind, arguments), &mut scene.store);
+    (answer, hashed)
+}
+
+/// The marks of all blocks.
+fn marks(scene: &Scene) -> Vec<u32> {
+    (0..scene.blocks()).map(|position| scene.record(position, MARK)).collect()
+}
+
+/// The marks of a region in which these blocks are marked, and all other marks are 0.
+fn marked(blocks: usize, positions: &[usize]) -> Vec<u32> {
+    (0..blocks).map(|position| u32::from(positions.contains(&position))).collect()
+}
+
 #[test]
 fn twelve_page_rights() {
     let cases = [
@@ -182,7 +198,7 @@ fn walks_through_a_large_page() {
         (16..blocks).for_each(|position| scene.put_byte(position, 7, position as u8));
         for (page, byte) in [(0xF0, 16), (0xF3, 19), (0xFF, 31)] {
             let given = Reference::new().perform(Call::new(Read, &[page << 12 | 7]), &mut scene.store);
-            assert_eq!(given, Given { answer: expected, byte: if expected == 0 { byte } else { 0 } });
+            assert_eq!((given.answer, given.byte), (expected, if expected == 0 { byte } else { 0 }));
         }
     }
 }
@@ -271,6 +287,163 @@ fn first_blocks() {
     }
 }
 
+/// A block is hashed once, and marked; a map of less marks nothing.
+#[test]
+fn a_block_is_hashed_once() {
+    let mut scene = typed(16);
+    scene.sign(9);
+    assert_eq!(hashed(&mut scene, MapL2, &[0x104, 0, 0x109, 1]), (0, 0));
+    assert_eq!(marks(&scene), marked(16, &[]));
+    assert_eq!(hashed(&mut scene, MapL2, &[0x104, 1, 0x109, 5]), (0, 1));
+    assert_eq!(marks(&scene), marked(16, &[9]));
+    assert_eq!(hashed(&mut scene, MapL2, &[0x104, 2, 0x109, 5]), (0, 0));
+    assert_eq!(hashed(&mut scene, MapL2, &[0x104, 3, 0x109, 3]), (11, 0));
+    assert_eq!(marks(&scene), marked(16, &[9]));
+}
+
+/// Exactly 1 is believed, also of bytes that are not signed; every other mark is hashed.
+#[test]
+fn only_1_is_a_mark() {
+    for (mark, signed, unsigned) in [
+        (1, (0, 0), (0, 0)),
+        (0, (0, 1), (12, 0)),
+        (2, (0, 1), (12, 0)),
+        (0x101, (0, 1), (12, 0)),
+        (u32::MAX, (0, 1), (12, 0)),
+    ] {
+        for (is_signed, expected) in [(true, signed), (false, unsigned)] {
+            let mut scene = typed(16);
+            if is_signed {
+                scene.sign(9);
+            }
+            scene.set_record(9, MARK, mark);
+            assert_eq!(hashed(&mut scene, MapL2, &[0x104, 0, 0x109, 5]), expected, "mark {mark:#x}");
+            assert_eq!(scene.record(9, MARK), if expected.0 == 0 { 1 } else { mark });
+        }
+    }
+}
+
+/// A section with three of its blocks marked; a large page; 1,024 pages of one block.
+#[test]
+fn different_blocks_are_counted() {
+    let mut scene = typed(512);
+    scene.store.golden = zero_digest().to_vec();
+    [256, 300, 511].into_iter().for_each(|position| scene.set_record(position, MARK, 1));
+    assert_eq!(hashed(&mut scene, MapL1, &[0x100, 0, 0x200, 5]), (0, 253));
+    assert_eq!(marks(&scene), marked(512, &(256..512).collect::<Vec<usize>>()));
+    assert_eq!(hashed(&mut scene, MapL1, &[0x100, 1, 0x200, 5]), (0, 0));
+    assert_eq!(hashed(&mut scene, MapLarge, &[0x104, 16, 0x110, 5]), (0, 16));
+    let mut scene = Scene::new(0x100, 16);
+    scene.store.golden = zero_digest().to_vec();
+    (0..1024).for_each(|index| scene.put(8, index, scene.mapping(9, PAGE_EXECUTE)));
+    assert_eq!(hashed(&mut scene, CreateL2, &[0x108]), (0, 1));
+    assert_eq!(marks(&scene), marked(16, &[9]));
+}
+
+/// 13 comes after 12: what was hashed then counts for nothing.
+#[test]
+fn a_refusal_after_hashing_leaves_the_marks() {
+    let mut scene = typed(16);
+    scene.sign(9);
+    scene.set_record(9, X, 1 << 22);
+    scene.set_record(9, MARK, 7);
+    assert_eq!(hashed(&mut scene, MapL2, &[0x104, 0, 0x109, 5]), (13, 0));
+    assert_eq!(scene.record(9, MARK), 7);
+}
+
+/// Each write of the monitor clears the mark of its holder, of an L1 table's four blocks that of one. A fault's unmap writes too.
+#[test]
+fn the_monitor_unmarks_what_it_writes() {
+    let calls: [(Kind, &[u32], usize); 9] = [
+        (MapL2, &[0x104, 3, 0x109, 1], 4),
+        (UnmapL2, &[0x104, 3], 4),
+        (UnmapL2, &[0x104, 700], 4),
+        (MapLarge, &[0x104, 32, 0x110, 0], 4),
+        (UnmapLarge, &[0x104, 32], 4),
+        (Link, &[0x100, 1023, 0x104, 0], 0),
+        (UnmapL1, &[0x100, 1024], 1),
+        (MapL1, &[0x100, 2048, 0x100, 1], 2),
+        (UnmapL1, &[0x100, 4095], 3),
+    ];
+    let mut scene = typed(256);
+    for (kind, arguments, holder) in calls {
+        scene.set_marks(0..256, 1);
+        assert_eq!(hashed(&mut scene, kind, arguments), (0, 0), "{kind:?}");
+        let others: Vec<usize> = (0..256).filter(|position| *position != holder).collect();
+        assert_eq!(marks(&scene), marked(256, &others), "{kind:?}");
+    }
+}
+
+/// The guest's write clears the mark of its block, also by the byte that stood there, and no access clears another.
+#[test]
+fn the_guest_unmarks_what_it_writes() {
+    let mut scene = typed(16);
+    scene.activate(0);
+    scene.put(0, 0, scene.link(4, 0));
+    scene.put(4, 5, scene.mapping(8, PAGE_WRITE));
+    scene.put(4, 6, scene.mapping(9, PAGE_READ));
+    let all: Vec<usize> = (0..16).collect();
+    let but_8: Vec<usize> = (0..16).filter(|position| *position != 8).collect();
+    let calls: [(Kind, &[u32], u32, &[usize]); 6] = [
+        (Write, &[0x5000, 0], 0, &but_8),
+        (Write, &[0x5FFF, 9], 0, &but_8),
+        (Write, &[0x6000, 9], 23, &all),
+        (Write, &[0x7000, 9], 22, &all),
+        (Read, &[0x5000], 0, &all),
+        (Fetch, &[0x6000], 23, &all),
+    ];
+    for (kind, arguments, expected, left) in calls {
+        scene.set_marks(0..16, 1);
+        assert_eq!(answer(&mut scene, kind, arguments), expected);
+        assert_eq!(marks(&scene), marked(16, left), "{kind:?} {arguments:x?}");
+    }
+}
+
+/// Create marks what it executes, itself too; free, switch and begin of another region.
+#[test]
+fn tables_and_marks() {
+    let mut scene = Scene::new(0x100, 16);
+    scene.put(8, 77, scene.mapping(8, PAGE_EXECUTE));
+    scene.put(8, 78, scene.mapping(9, PAGE_WRITE));
+    scene.sign(8);
+    scene.set_record(9, MARK, 1);
+    assert_eq!(hashed(&mut scene, CreateL2, &[0x108]), (0, 1));
+    assert_eq!(marks(&scene), marked(16, &[8, 9]));
+    assert_eq!(answer(&mut scene, CreateL1, &[0x100]), 0);
+    assert_eq!(answer(&mut scene, Switch, &[0x100]), 0);
+    assert_eq!(answer(&mut scene, FreeL2, &[0x108]), 0);
+    assert_eq!(marks(&scene), marked(16, &[8, 9]));
+    assert_eq!(answer(&mut scene, Begin, &[0x100]), 0);
+    assert_eq!(marks(&scene), marked(16, &[]));
+}
+
+#[test]
+fn forgotten_blocks() {
+    for (block, count, expected, kept) in [
+        (0x100, 16, 0, 0..0),
+        (0x100, 15, 0, 15..16),
+        (0x101, 15, 0, 0..1),
+        (0x101, 16, 2, 0..16),
+        (0xFF, 1, 2, 0..16),
+        (0x110, 1, 2, 0..16),
+        (0x110, 0, 0, 0..16),
+        (0, 0, 0, 0..16),
+        (u32::MAX, 0, 0, 0..16),
+        (u32::MAX, 2, 2, 0..16),
+        (0x100, u32::MAX, 2, 0..16),
+        (0x101, u32::MAX, 2, 0..16),
+        (u32::MAX, u32::MAX, 2, 0..16),
+    ] {
+        let mut scene = typed(16);
+        scene.set_marks(0..16, 1);
+        assert_eq!(hashed(&mut scene, Forget, &[block, count]), (expected, 0), "{count} from {block:#x}");
+        assert_eq!(marks(&scene), marked(16, &kept.collect::<Vec<usize>>()), "{count} from {block:#x}");
+        let mut long = typed(16);
+        long.store.ledger.push(0);
+        assert_eq!(answer(&mut long, Forget, &[block, count]), 1);
+    }
+}
+
 /// A refused read gives 0, a write stores the low 8 bits only.
 #[test]
 fn guest_bytes() {
@@ -279,7 +452,7 @@ fn guest_bytes() {
     scene.put(0, 0, scene.link(4, 0));
     scene.put(4, 5, scene.mapping(8, PAGE_WRITE));
     let mut given = |kind, arguments: &[u32]| {
-        let Given { answer, byte } = Reference::new().perform(Call::new(kind, arguments), &mut scene.store);
+        let Given { answer, byte, .. } = Reference::new().perform(Call::new(kind, arguments), &mut scene.store);
         (answer, byte)
     };
     assert_eq!(given(Write, &[0x5001, 0x1234_5678]), (0, 0));

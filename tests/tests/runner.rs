@@ -1,7 +1,7 @@
 //! The runner of lists of records beside the reference: the records obeyed, every answer and byte, and all of memory and ledger.
 use std::rc::Rc;
 use tests::lists::Lister;
-use tests::monitor::{Call, Given, Kind, Store, BLOCK};
+use tests::monitor::{ledger_bytes, Call, Given, Kind, Store, BLOCK};
 use tests::program::{bad_records, records, RECORD_BYTES};
 use tests::random::Random;
 use tests::reference::Reference;
@@ -126,13 +126,14 @@ fn bad_records_end_the_list() {
 #[test]
 fn unlawful_buffers() {
     let mut random = Random::new(4);
-    let calls = Kind::ALL.map(|kind| Call { kind, arguments: [(); 4].map(|()| random.below(16) as u32) });
-    let refused = calls.map(|call| (call, Given { answer: 1, byte: 0 }));
-    let lengths = [(0, 0), (7 * BLOCK, 8 + 16 * 7), (8 * BLOCK - 1, 8 + 16 * 8), (8 * BLOCK, 8 + 16 * 8 + 1)];
+    let calls = Kind::recorded().map(|kind| Call { kind, arguments: [(); 4].map(|()| random.below(16) as u32) });
+    let refused: Vec<_> = calls.map(|call| (call, Given { answer: 1, ..Given::default() })).collect();
+    let right = ledger_bytes(8);
+    let lengths = [(0, 0), (7 * BLOCK, ledger_bytes(7)), (8 * BLOCK - 1, right), (8 * BLOCK, right + 1)];
     for (memory, ledger) in lengths {
         let store =
             Store { memory: Rc::new(random.bytes(memory)), ledger: random.bytes(ledger), golden: random.bytes(32) };
-        let part = Part { before: store.clone(), steps: refused.to_vec(), after: store };
+        let part = Part { before: store.clone(), steps: refused.clone(), after: store };
         part.must_come_of_its_records(&format!("{memory} bytes of memory, {ledger} of ledger"));
     }
 }

@@ -132,7 +132,7 @@ fn agree(calls: &[Kind]) -> bool {
 fn lists(candidate: &dyn Monitor, reference: &dyn Monitor) -> bool {
     let start = Instant::now();
     let mut comparer = Comparer::new(candidate, reference);
-    if let Err(difference) = tests::lists::run(&mut comparer) {
+    if let Err(difference) = tests::lists::run(&mut comparer).and_then(|()| tests::hypervisor::run(&mut comparer)) {
         println!("compare: {difference}");
         return false;
     }

@@ -1,8 +1,9 @@
 //! The guest's read, write and fetch.
+use super::marks::random_mark;
 use super::scene::*;
 use super::Case;
 use crate::compare::{Comparer, Outcome};
-use crate::monitor::Kind;
+use crate::monitor::{Kind, MARKED};
 use crate::random::Random;
 
 pub fn run(kind: Kind, comparer: &mut Comparer) -> Outcome {
@@ -26,9 +27,10 @@ struct Guest {
     kind: Kind,
 }
 
-/// An active L1 table in blocks 4 to 7 and an L2 block 8, both of zeros, and data with some bytes from block 9 on.
+/// An active L1 table in blocks 4 to 7 and an L2 block 8, both of zeros, and data with some bytes from block 9 on. All blocks are marked.
 fn tables(blocks: usize) -> Scene {
     let mut scene = Scene::new(0x300, blocks);
+    scene.set_marks(0..blocks, MARKED);
     let mut random = Random::new(20);
     scene.set_types(4..8, 1);
     scene.set_types(8..9, 2);
@@ -185,13 +187,13 @@ impl Guest {
         Ok(())
     }
 
-    /// Types are not read, counters neither.
+    /// Types are not read, counters and marks neither.
     fn types(&self, comparer: &mut Comparer) -> Outcome {
         for code in [0, 1, 2, 3, 0x100, u32::MAX] {
             let mut scene = tables(12);
             scene.set_types(0..12, code);
             for position in 0..12 {
-                for which in [W, X, L] {
+                for which in [W, X, L, MARK] {
                     scene.set_record(position, which, code);
                 }
             }
@@ -292,6 +294,7 @@ impl Guest {
             let blocks = if round % 8 == 0 { 256 + random.below(3) } else { 8 + random.below(9) };
             let mut scene = Scene::new(256 * random.below(4) as u32, blocks);
             scene.set_active(scene.block(4 * random.below(blocks.min(16) / 4)));
+            (0..blocks).for_each(|position| scene.set_record(position, MARK, random_mark(&mut random)));
             for position in 0..blocks.min(12) {
                 for _ in 0..40 {
                     let word = random_word(&scene, &mut random);

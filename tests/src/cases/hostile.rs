@@ -1,6 +1,7 @@
 //! Ledgers, memories and arguments at random, drawn so that every refusal and acceptance is likely.
 use super::guest::random_word;
 use super::large::random_run;
+use super::marks::random_mark;
 use super::reasons::LIMIT;
 use super::scene::*;
 use crate::bytes::put_word;
@@ -10,7 +11,7 @@ use crate::random::Random;
 use Kind::*;
 
 pub fn run(kind: Kind, comparer: &mut Comparer) -> Outcome {
-    let mut random = Random::new(40 + kind as u64);
+    let mut random = Random::new(41 + kind as u64);
     for _ in 0..1000 {
         let blocks = 8 + random.below(10);
         comparer.check(case(kind, blocks, &mut random))?;
@@ -54,7 +55,7 @@ fn case(kind: Kind, blocks: usize, random: &mut Random) -> super::Case {
     scene.case("random", kind, &arguments[..kind.arity()])
 }
 
-/// Types that mostly suit the call, and counters that mostly are 0.
+/// Types that mostly suit the call, counters that mostly are 0, and any marks.
 fn records(kind: Kind, scene: &mut Scene, table: usize, random: &mut Random) {
     let needed = match kind {
         CreateL1 | CreateL2 => 0,
@@ -86,6 +87,7 @@ fn records(kind: Kind, scene: &mut Scene, table: usize, random: &mut Random) {
             };
             scene.set_record(position, which, count);
         }
+        scene.set_record(position, MARK, random_mark(random));
     }
 }
 

@@ -3,7 +3,7 @@ use super::reasons::*;
 use super::scene::*;
 use super::Case;
 use crate::compare::{Comparer, Outcome};
-use crate::monitor::Kind;
+use crate::monitor::{Kind, MARKED};
 use crate::random::Random;
 use Kind::*;
 
@@ -96,6 +96,7 @@ impl About {
         scene.store.golden = zero_digest().to_vec();
         scene.set_record(PAGE_TABLE, TYPE, if self.kind == CreateL2 { 0 } else { 2 });
         if self.is_guest() {
+            scene.set_marks(0..blocks, MARKED);
             scene.set_types(0..4, 1);
             scene.activate(0);
             (0..4).for_each(|table| scene.put(0, table, scene.link(PAGE_TABLE, table as u32)));

@@ -2,6 +2,7 @@
 mod guest;
 mod hostile;
 mod large;
+mod marks;
 mod reasons;
 mod regions;
 pub mod scene;
@@ -12,13 +13,21 @@ mod whole;
 use crate::compare::{Comparer, Outcome};
 use crate::monitor::{Call, Kind, Store};
 
-/// A call with the buffers that it is lent, and the answer if it is known without the reference.
+/// A call with the buffers that it is lent, and the answer and the number of blocks hashed if they are known without the reference.
 #[derive(Clone)]
 pub struct Case {
     pub name: String,
     pub call: Call,
     pub store: Store,
     pub expected: Option<u32>,
+    pub hashed: Option<u32>,
+}
+
+impl Case {
+    /// The same, with the number of blocks hashed.
+    pub fn hashing(self, number: u32) -> Case {
+        Case { hashed: Some(number), ..self }
+    }
 }
 
 /// All cases of one call; the largest regions last.
@@ -27,6 +36,7 @@ pub fn run(kind: Kind, comparer: &mut Comparer) -> Outcome {
     match kind {
         Kind::Begin => simple::begin(comparer)?,
         Kind::Switch => simple::switch(comparer)?,
+        Kind::Forget => {}
         Kind::Read | Kind::Write | Kind::Fetch => {
             guest::run(kind, comparer)?;
             large::run(kind, comparer)?;
@@ -40,5 +50,6 @@ pub fn run(kind: Kind, comparer: &mut Comparer) -> Outcome {
             hostile::run(kind, comparer)?;
         }
     }
+    marks::run(kind, comparer)?;
     regions::large(kind, comparer)
 }

@@ -3,7 +3,7 @@ use super::scene::*;
 use super::Case;
 use crate::bytes::put_word;
 use crate::compare::{Comparer, Outcome};
-use crate::monitor::{Call, Kind};
+use crate::monitor::{Call, Kind, MARKED};
 use Kind::*;
 
 /// The region's first block in these cases.
@@ -23,7 +23,7 @@ impl Setup {
     }
 
     pub fn case(self, name: &str, expected: Option<u32>) -> Case {
-        Case { name: name.to_string(), call: self.call, store: self.scene.store, expected }
+        Case { name: name.to_string(), call: self.call, store: self.scene.store, expected, hashed: None }
     }
 
     fn same(&self, other: &Setup) -> bool {
@@ -51,25 +51,28 @@ pub const LARGE_REGION: usize = 40;
 /// The last sixteen entries of an L2 block.
 pub const LAST_RUN: usize = 1008;
 
-/// A section of data, an L1 table of zeros and an L2 block.
+/// A section of data, an L1 table of zeros and an L2 block. The tables are marked.
 pub fn l1_scene() -> Scene {
     let mut scene = Scene::new(FIRST, L1_REGION);
+    scene.set_marks(L1_TABLE..L2_BLOCK + 1, MARKED);
     scene.set_types(L1_TABLE..L1_TABLE + 4, 1);
     scene.set_types(L2_BLOCK..L2_BLOCK + 1, 2);
     scene
 }
 
-/// An L2 block of zeros and some data.
+/// An L2 block of zeros, marked, and some data.
 pub fn l2_scene() -> Scene {
     let mut scene = Scene::new(FIRST, L2_REGION);
+    scene.set_marks(PAGE_TABLE..PAGE_TABLE + 1, MARKED);
     scene.set_types(PAGE_TABLE..PAGE_TABLE + 1, 2);
     scene.put_byte(PAGE, 0, 1);
     scene
 }
 
-/// An L2 block of zeros, and data of zeros behind it, signed.
+/// An L2 block of zeros, marked, and data of zeros behind it, signed.
 pub fn large_scene() -> Scene {
     let mut scene = Scene::new(FIRST, LARGE_REGION);
+    scene.set_marks(PAGE_TABLE..PAGE_TABLE + 1, MARKED);
     scene.set_types(PAGE_TABLE..PAGE_TABLE + 1, 2);
     scene.store.golden = zero_digest().to_vec();
     scene
@@ -580,15 +583,26 @@ fn link_outside(s: &mut Setup) {
     s.scene.put(L1_TABLE, 1030, (0x2FF << 12) + 1);
 }
 
-/// Each accepted form, and each reason alone.
-pub fn run(kind: Kind, comparer: &mut Comparer) -> Outcome {
+/// Each accepted form with each reason alone, and the answer.
+pub fn refused(kind: Kind) -> Vec<(String, Setup, u32)> {
+    let mut all = Vec::new();
     for (form, (setup, reasons)) in accepted(kind).into_iter().zip(reasons(kind)).enumerate() {
         for (i, (number, alter)) in reasons.iter().enumerate() {
             let mut altered = setup.clone();
             alter(&mut altered);
-            comparer.check(altered.case(&format!("form {form}, reason {i} for {number}"), Some(*number)))?;
+            all.push((format!("form {form}, reason {i} for {number}"), altered, *number));
         }
+    }
+    all
+}
+
+/// Each accepted form, and each reason alone.
+pub fn run(kind: Kind, comparer: &mut Comparer) -> Outcome {
+    for (form, setup) in accepted(kind).into_iter().enumerate() {
         comparer.check(setup.case(&format!("form {form}"), Some(0)))?;
+    }
+    for (name, setup, number) in refused(kind) {
+        comparer.check(setup.case(&name, Some(number)).hashing(0))?;
     }
     Ok(())
 }

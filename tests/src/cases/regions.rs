@@ -3,19 +3,21 @@ use super::scene::*;
 use super::Case;
 use crate::bytes::put_word;
 use crate::compare::{Comparer, Outcome};
-use crate::monitor::{Kind, BLOCK};
+use crate::monitor::{Kind, BLOCK, LEDGER_RECORD, MARKED};
 use crate::random::Random;
 use std::rc::Rc;
 use Kind::*;
 
 /// A call that is accepted, as far as the region's size allows: an L1 table in blocks 0 to 3 with a link to the L2 block 4, which has a writable
-/// page (block 5) and an executable one (block 6).
+/// page (block 5) and an executable one (block 6). All blocks are marked but the last of these.
 pub fn valid(kind: Kind, first: u32, blocks: usize) -> Case {
     let mut scene = Scene::new(first, blocks);
     let mut random = Random::new(blocks as u64);
     scene.fill(5, &mut random);
     scene.fill(6, &mut random);
     scene.sign(6);
+    scene.set_marks(0..blocks, MARKED);
+    scene.set_marks(6..blocks.min(7), 0);
     scene.put(0, 0, scene.link(4, 0));
     scene.put(4, 0, scene.mapping(5, PAGE_WRITE));
     scene.put(4, 1, scene.mapping(6, PAGE_EXECUTE));
@@ -51,6 +53,7 @@ pub fn valid(kind: Kind, first: u32, blocks: usize) -> Case {
         UnmapLarge => &[page_table, 32],
         Read | Write => &[0x123, 0x5A],
         Fetch => &[0x1FFF],
+        Forget => &[first, blocks as u32],
     };
     let needed = match kind {
         MapL1 => 256,
@@ -110,8 +113,9 @@ fn wrong_lengths(kind: Kind, comparer: &mut Comparer) -> Outcome {
         let lengths = [
             (memory, ledger - 1),
             (memory, ledger + 1),
-            (memory, ledger - 16),
-            (memory, ledger + 16),
+            (memory, ledger - LEDGER_RECORD),
+            (memory, ledger + LEDGER_RECORD),
+            (memory, 8 + 16 * blocks),
             (memory, ledger - 8),
             (memory, 2 * ledger),
             (memory, 0),
@@ -119,9 +123,9 @@ fn wrong_lengths(kind: Kind, comparer: &mut Comparer) -> Outcome {
             (memory, 8),
             (memory - 1, ledger),
             (memory + 1, ledger),
-            (memory - 1, ledger - 16),
+            (memory - 1, ledger - LEDGER_RECORD),
             (memory + BLOCK - 1, ledger),
-            (memory + BLOCK - 1, ledger + 16),
+            (memory + BLOCK - 1, ledger + LEDGER_RECORD),
             (memory + BLOCK, ledger),
             (memory - BLOCK, ledger),
             (memory + 16, ledger),

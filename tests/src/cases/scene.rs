@@ -10,6 +10,7 @@ pub const TYPE: usize = 0;
 pub const W: usize = 1;
 pub const X: usize = 2;
 pub const L: usize = 3;
+pub const MARK: usize = 4;
 
 /// Low bits of entries that give nothing, read, read and write, read and execute, or all three.
 pub const PAGE_NONE: u32 = 0x01F;
@@ -53,7 +54,7 @@ impl Scene {
         self.first.wrapping_add(position as u32)
     }
 
-    /// A word of a block's record: TYPE, W, X or L.
+    /// A word of a block's record: TYPE, W, X, L or MARK.
     pub fn record(&self, position: usize, which: usize) -> u32 {
         word(&self.store.ledger, LEDGER_HEAD + LEDGER_RECORD * position + 4 * which)
     }
@@ -65,6 +66,12 @@ impl Scene {
     pub fn set_types(&mut self, positions: std::ops::Range<usize>, code: u32) {
         for position in positions {
             self.set_record(position, TYPE, code);
+        }
+    }
+
+    pub fn set_marks(&mut self, positions: std::ops::Range<usize>, mark: u32) {
+        for position in positions {
+            self.set_record(position, MARK, mark);
         }
     }
 
@@ -88,6 +95,11 @@ impl Scene {
 
     pub fn word(&self, position: usize, index: usize) -> u32 {
         word(&self.store.memory, BLOCK * position + 4 * index)
+    }
+
+    /// Where a block has words that are no faults.
+    pub fn entries(&self, position: usize) -> impl Iterator<Item = usize> + '_ {
+        (0..1024).filter(move |index| self.word(position, *index) & 3 != 0)
     }
 
     pub fn put_byte(&mut self, position: usize, offset: usize, byte: u8) {
@@ -119,7 +131,8 @@ impl Scene {
     }
 
     pub fn case(&self, name: &str, kind: Kind, arguments: &[u32]) -> Case {
-        Case { name: name.to_string(), call: Call::new(kind, arguments), store: self.store.clone(), expected: None }
+        let (call, store) = (Call::new(kind, arguments), self.store.clone());
+        Case { name: name.to_string(), call, store, expected: None, hashed: None }
     }
 
     pub fn expect(&self, name: &str, kind: Kind, arguments: &[u32], answer: u32) -> Case {

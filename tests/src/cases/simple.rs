@@ -1,7 +1,8 @@
 //! Begin and switch.
+use super::marks::random_mark;
 use super::scene::*;
 use crate::compare::{Comparer, Outcome};
-use crate::monitor::{Kind, NO_TABLE};
+use crate::monitor::{Kind, MARKED, NO_TABLE};
 use crate::random::Random;
 
 /// Begin on ledgers of any contents.
@@ -14,6 +15,11 @@ pub fn begin(comparer: &mut Comparer) -> Outcome {
             scene.store.ledger = random.bytes(scene.store.ledger.len());
             comparer.check(scene.expect("a ledger of random bytes", Kind::Begin, &[first], 0))?;
         }
+        let mut scene = Scene::new(0x500, blocks);
+        scene.set_marks(0..blocks, MARKED);
+        comparer.check(scene.expect("all blocks are marked", Kind::Begin, &[0x500], 0))?;
+        scene.store.ledger.fill(0xFF);
+        comparer.check(scene.expect("a ledger of ones", Kind::Begin, &[0x500], 0))?;
     }
     Ok(())
 }
@@ -80,6 +86,7 @@ fn switch_random(comparer: &mut Comparer) -> Outcome {
             for which in [W, X, L] {
                 scene.set_record(position, which, random.next() as u32);
             }
+            scene.set_record(position, MARK, random_mark(&mut random));
         }
         scene.set_active([NO_TABLE, 0, random.next() as u32][random.below(3)]);
         let block = scene.first.wrapping_add(random.below(blocks + 4) as u32).wrapping_sub(2);

@@ -110,6 +110,7 @@ impl View<'_> {
     pub fn guest_leaves(&self, outcome: &mut Outcome) {
         if let Ok(End { at, .. }) = self.walk() {
             outcome.memory.push((at, self.arguments[1] as u8));
+            self.unmark(self.block_of(at), outcome);
         }
     }
 }

@@ -9,6 +9,7 @@ pub const TYPE: usize = 0;
 pub const W: usize = 1;
 pub const X: usize = 2;
 pub const L: usize = 3;
+pub const MARK: usize = 4;
 
 /// The types (ledger 4) of data and of an L2 block.
 pub const D: u32 = 0;
@@ -40,7 +41,7 @@ impl View<'_> {
     }
 
     /// A word of the block's record, 0 for a block outside.
-    fn record(&self, block: u64, which: usize) -> u32 {
+    pub fn record(&self, block: u64, which: usize) -> u32 {
         self.position(block).map_or(0, |position| word(self.ledger, record_word(position, which)))
     }
 

@@ -105,7 +105,7 @@ impl View<'_> {
 
     /// map 12
     fn target_unsigned(&self) -> bool {
-        self.asked().execute && self.target_blocks().any(|block| !self.signed(block))
+        self.asked().execute && self.target_blocks().any(|block| !self.known(block))
     }
 
     /// The entries that a map or link adds.
@@ -123,15 +123,17 @@ impl View<'_> {
     pub fn map_leaves(&self, outcome: &mut Outcome) {
         let [_, _, target, rights] = self.arguments;
         self.rewrite(mapping_word(self.kind, target, rights), outcome);
+        self.mark_executed(outcome);
     }
 
-    /// This word comes to the index, or to all sixteen, and the counters change.
+    /// This word comes to the index, or to all sixteen, the counters change, and the holder is written.
     fn rewrite(&self, word: u32, outcome: &mut Outcome) {
         for index in self.indices() {
             let at = self.offset(self.block()) + 4 * index as usize;
             outcome.memory.extend((at..).zip(word.to_le_bytes()));
         }
         outcome.ledger.extend(self.changed_counters());
+        self.unmark(self.holder(), outcome);
     }
 
     /// link list

@@ -5,6 +5,7 @@ pub mod entries;
 mod guest;
 mod ledger;
 mod mapping;
+mod marks;
 mod refusals;
 mod region;
 mod tables;
@@ -68,7 +69,7 @@ impl<'a> View<'a> {
     /// What the call gives and leaves with this answer.
     pub fn settle(&self, answer: u32) -> Outcome {
         let mut outcome = Outcome { answer, ..Outcome::default() };
-        // calls 3 and 5
+        // calls 3, 5 and 8
         if answer == 0 {
             self.leave(&mut outcome);
         }
@@ -85,6 +86,7 @@ impl<'a> View<'a> {
             Kind::UnmapL1 | Kind::UnmapL2 | Kind::UnmapLarge => self.unmap_refusals(),
             Kind::Switch => self.switch_refusals(),
             Kind::Read | Kind::Write | Kind::Fetch => self.guest_refusals(),
+            Kind::Forget => self.forget_refusals(),
         }
     }
 
@@ -100,6 +102,7 @@ impl<'a> View<'a> {
             Kind::Switch => self.switch_leaves(outcome),
             Kind::Read | Kind::Fetch => self.guest_byte(outcome),
             Kind::Write => self.guest_leaves(outcome),
+            Kind::Forget => self.forget_leaves(outcome),
         }
     }
 

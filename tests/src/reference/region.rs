@@ -40,6 +40,11 @@ impl View<'_> {
         self.position(block).map_or(self.memory.len(), |position| BLOCK * position)
     }
 
+    /// The block in which a byte of memory lies (memory 3).
+    pub fn block_of(&self, at: usize) -> u64 {
+        self.first() + (at / BLOCK) as u64
+    }
+
     /// signature 2, broken.
     pub fn golden_wrong(&self) -> bool {
         self.golden.len() % 32 != 0 || self.golden.len() / 32 > 1024

@@ -1,6 +1,6 @@
 //! RULES, begin, create and free.
 use super::entries::{Entry, Level, Place};
-use super::ledger::{record_word, ACTIVE, D, L, L2, TYPE, W, X};
+use super::ledger::{record_word, ACTIVE, D, L, L2, MARK, TYPE, W, X};
 use super::refusals::{refusals, Refusal};
 use super::View;
 use crate::monitor::NO_TABLE;
@@ -17,7 +17,7 @@ impl View<'_> {
     pub fn begin_leaves(&self, outcome: &mut Outcome) {
         outcome.ledger.extend([(0, self.arguments[0]), (ACTIVE, NO_TABLE)]);
         for position in 0..self.blocks() as usize {
-            outcome.ledger.extend([TYPE, W, X, L].map(|which| (record_word(position, which), 0)));
+            outcome.ledger.extend([TYPE, W, X, L, MARK].map(|which| (record_word(position, which), 0)));
         }
     }
 
@@ -73,12 +73,13 @@ impl View<'_> {
     fn table_executes_unsigned(&self) -> bool {
         let executable = self.table_entries().iter().filter(|entry| entry.executable());
         let places: BTreeSet<Place> = executable.filter_map(|entry| entry.covered()).collect();
-        places.into_iter().any(|place| place.blocks().any(|block| !self.signed(block)))
+        places.into_iter().any(|place| place.blocks().any(|block| !self.known(block)))
     }
 
     /// create leaves
     pub fn create_leaves(&self, outcome: &mut Outcome) {
         self.retype(self.level().code(), outcome);
+        self.mark_executed(outcome);
     }
 
     /// The blocks get this type, and the counters change.
