@@ -1,10 +1,12 @@
 //! The calls in plain Rust, written for speed: what a good program without proofs would be. Safe Rust, every index checked.
-//! Create and free count a table's entries in lent scratch bytes first, 16 for each block; their counts are 0 before and after each call.
+//! Create and free count a table's entries in lent scratch bytes first, COUNT for each block; their counts are 0 before and after each call.
 use crate::sha256::sha256;
 
 const BLOCK: usize = 4096;
 const LEDGER_HEAD: usize = 8;
-const RECORD: usize = 16;
+const RECORD: usize = 20;
+/// The scratch bytes of a block.
+pub const COUNT: usize = 16;
 const DIGEST: usize = 32;
 
 const DATA: u32 = 0;
@@ -23,7 +25,7 @@ const LARGE_BLOCKS: u32 = 16;
 /// The bytes of a large page's sixteen entries.
 const RUN: usize = 64;
 
-/// Nothing, or the number of a refusal.
+/// Nothing, or the number of a refusal. Of creates and maps: how many blocks were hashed, or that number.
 type Judged<T = ()> = Result<T, u32>;
 
 #[inline(always)]
@@ -32,6 +34,12 @@ fn answer(judged: Judged) -> u32 {
         Ok(()) => 0,
         Err(number) => number,
     }
+}
+
+#[inline(always)]
+fn answer_and_hashed(judged: Judged<u32>, hashed: &mut u32) -> u32 {
+    *hashed = judged.unwrap_or(0);
+    answer(judged.map(|_| ()))
 }
 
 #[inline(always)]
@@ -60,6 +68,20 @@ const TYPE: usize = 0;
 const W: usize = 4;
 const X: usize = 8;
 const L: usize = 12;
+const MARK: usize = 16;
+
+const MARKED: u32 = 1;
+
+#[inline(always)]
+fn is_marked(record: &Record) -> bool {
+    word(record, MARK) == MARKED
+}
+
+/// Clears the mark of the block in which a byte of memory lies.
+#[inline(always)]
+fn unmark(ledger: &mut [u8], at: usize) {
+    put_word(&mut records_mut(ledger)[at / BLOCK], MARK, 0);
+}
 
 /// The records of all blocks.
 #[inline(always)]
@@ -266,10 +288,13 @@ fn words(bytes: &[u8]) -> impl Iterator<Item = u32> + '_ {
     bytes.as_chunks().0.iter().map(|bytes| u32::from_le_bytes(*bytes))
 }
 
-/// What a table's entries give to each block. Record b of the scratch bytes has the counts of block b in the places of the ledger's record;
-/// the first word of record i is the block that was the i-th to be counted.
+/// The scratch bytes of a block: its counts in the places of the ledger's record.
+type Count = [u8; COUNT];
+
+/// What a table's entries give to each block. Count b of the scratch bytes is that of block b; the first word of count i is the block that was the
+/// i-th to be counted.
 struct Counts<'a> {
-    scratch: &'a mut [Record],
+    scratch: &'a mut [Count],
     counted: usize,
 }
 
@@ -411,15 +436,20 @@ impl New {
 
     /// Refusals 10 to 13.
     #[inline(always)]
-    fn judge(&self, memory: &[u8], golden: &[u8], counts: &Counts) -> Judged {
+    fn judge(&self, memory: &[u8], ledger: &[Record], golden: &[u8], counts: &Counts) -> Judged<u32> {
         refuse_if(self.refusal < 12, self.refusal)?;
+        let mut hashed = 0;
         if self.executes {
             for i in 0..counts.counted {
                 let b = counts.block(i);
-                refuse_if(word(&counts.scratch[b], X) > 0 && !is_signed(memory, b, golden), 12)?;
+                if word(&counts.scratch[b], X) > 0 && !is_marked(&ledger[b]) {
+                    refuse_if(!is_signed(memory, b, golden), 12)?;
+                    hashed += 1;
+                }
             }
         }
-        refuse_if(self.refusal < NONE, self.refusal)
+        refuse_if(self.refusal < NONE, self.refusal)?;
+        Ok(hashed)
     }
 }
 
@@ -445,15 +475,16 @@ fn create<V: Level>(
     region: Region,
     block: u32,
     b: usize,
-) -> Judged {
+) -> Judged<u32> {
     let ledger = records_mut(ledger);
     let own = &ledger[b..b + V::BLOCKS as usize];
     refuse_if(own.iter().any(|record| word(record, TYPE) != DATA), 5)?;
     refuse_if(own.iter().any(|record| word(record, W) | word(record, X) | word(record, L) != 0), 6)?;
     let mut counts = Counts { scratch: scratch.as_chunks_mut().0, counted: 0 };
     let mut new = New { refusal: NONE, executes: false };
-    let judged =
-        new.count::<V>(memory, ledger, region, block, b, &mut counts).and_then(|()| new.judge(memory, golden, &counts));
+    let judged = new
+        .count::<V>(memory, ledger, region, block, b, &mut counts)
+        .and_then(|()| new.judge(memory, ledger, golden, &counts));
     if judged.is_err() {
         counts.clear();
         return judged;
@@ -461,6 +492,9 @@ fn create<V: Level>(
     for i in 0..counts.counted {
         let t = counts.block(i);
         let (count, record) = (&mut counts.scratch[t], &mut ledger[t]);
+        if word(count, X) > 0 {
+            put_word(record, MARK, MARKED);
+        }
         for k in [W, X, L] {
             let sum = word(record, k) + word(count, k);
             put_word(record, k, sum);
@@ -468,11 +502,11 @@ fn create<V: Level>(
         }
     }
     put_types::<V>(ledger, b, V::TYPE);
-    Ok(())
+    judged
 }
 
 #[inline(always)]
-fn judge_create_l1(memory: &[u8], ledger: &mut [u8], golden: &[u8], scratch: &mut [u8], block: u32) -> Judged {
+fn judge_create_l1(memory: &[u8], ledger: &mut [u8], golden: &[u8], scratch: &mut [u8], block: u32) -> Judged<u32> {
     let region = Region::stored(memory, ledger)?;
     judge_image(golden)?;
     let b = region.l1_place(block)?;
@@ -480,7 +514,7 @@ fn judge_create_l1(memory: &[u8], ledger: &mut [u8], golden: &[u8], scratch: &mu
 }
 
 #[inline(always)]
-fn judge_create_l2(memory: &[u8], ledger: &mut [u8], golden: &[u8], scratch: &mut [u8], block: u32) -> Judged {
+fn judge_create_l2(memory: &[u8], ledger: &mut [u8], golden: &[u8], scratch: &mut [u8], block: u32) -> Judged<u32> {
     let region = Region::stored(memory, ledger)?;
     judge_image(golden)?;
     let b = region.place(block, 1).ok_or(2u32)?;
@@ -488,13 +522,27 @@ fn judge_create_l2(memory: &[u8], ledger: &mut [u8], golden: &[u8], scratch: &mu
 }
 
 #[inline(never)]
-pub fn create_l1(memory: &[u8], ledger: &mut [u8], golden: &[u8], scratch: &mut [u8], block: u32) -> u32 {
-    answer(judge_create_l1(memory, ledger, golden, scratch, block))
+pub fn create_l1(
+    memory: &[u8],
+    ledger: &mut [u8],
+    golden: &[u8],
+    scratch: &mut [u8],
+    block: u32,
+    hashed: &mut u32,
+) -> u32 {
+    answer_and_hashed(judge_create_l1(memory, ledger, golden, scratch, block), hashed)
 }
 
 #[inline(never)]
-pub fn create_l2(memory: &[u8], ledger: &mut [u8], golden: &[u8], scratch: &mut [u8], block: u32) -> u32 {
-    answer(judge_create_l2(memory, ledger, golden, scratch, block))
+pub fn create_l2(
+    memory: &[u8],
+    ledger: &mut [u8],
+    golden: &[u8],
+    scratch: &mut [u8],
+    block: u32,
+    hashed: &mut u32,
+) -> u32 {
+    answer_and_hashed(judge_create_l2(memory, ledger, golden, scratch, block), hashed)
 }
 
 /// Refusals 8 and 10 of an old table's entries, which are counted on the way.
@@ -655,14 +703,15 @@ fn judge_map_l1(
     index: u32,
     target: u32,
     rights: u32,
-) -> Judged {
+) -> Judged<u32> {
     let region = Region::stored(memory, ledger)?;
     judge_image(golden)?;
     let at = l1_slot(region, ledger, block, index, target % SECTION_BLOCKS == 0, 0)?;
     judge_request(memory, at, rights)?;
-    map_blocks::<SECTION_BLOCKS>(memory, ledger, golden, region, block + index / 1024, target, rights)?;
+    let hashed = map_blocks::<SECTION_BLOCKS>(memory, ledger, golden, region, block + index / 1024, target, rights)?;
     put_word(memory, at, target << 12 | SECTION_BITS[rights as usize]);
-    Ok(())
+    unmark(ledger, at);
+    Ok(hashed)
 }
 
 #[inline(always)]
@@ -674,20 +723,21 @@ fn judge_map_large(
     index: u32,
     target: u32,
     rights: u32,
-) -> Judged {
+) -> Judged<u32> {
     let region = Region::stored(memory, ledger)?;
     judge_image(golden)?;
     let at = l2_slot(region, ledger, block, index, (index | target) % LARGE_BLOCKS == 0)?;
     let low = memory[at..at + RUN].iter().step_by(4).fold(0, |low, byte| low | byte);
     refuse_if(low & 3 != 0, 8)?;
     judge_rights(rights)?;
-    map_blocks::<LARGE_BLOCKS>(memory, ledger, golden, region, block, target, rights)?;
+    let hashed = map_blocks::<LARGE_BLOCKS>(memory, ledger, golden, region, block, target, rights)?;
     let word = (target << 12 | LARGE_BITS[rights as usize]).to_le_bytes();
     memory[at..at + RUN].as_chunks_mut().0.fill(word);
-    Ok(())
+    unmark(ledger, at);
+    Ok(hashed)
 }
 
-/// Refusals 10 to 13 of a mapping of M blocks, and their counters.
+/// Refusals 10 to 13 of a mapping of M blocks, their counters, and with execute their marks.
 #[inline(always)]
 fn map_blocks<const M: u32>(
     memory: &[u8],
@@ -697,8 +747,9 @@ fn map_blocks<const M: u32>(
     holder: u32,
     target: u32,
     rights: u32,
-) -> Judged {
+) -> Judged<u32> {
     let t = region.place(target, M).ok_or(10u32)?;
+    let mut hashed = 0;
     let target_records = records_of::<M>(ledger, t);
     if rights & WRITE != 0 {
         let (mut types, mut executed, mut most) = (0, 0, 0);
@@ -714,11 +765,22 @@ fn map_blocks<const M: u32>(
     } else if rights & EXECUTE != 0 {
         refuse_if((target..target + M).contains(&holder), 10)?;
         refuse_if(target_records.iter().any(|record| word(record, W) > 0), 11)?;
-        refuse_if((t..t + M as usize).any(|b| !is_signed(memory, b, golden)), 12)?;
+        for (b, _) in (t..).zip(target_records).filter(|(_, record)| !is_marked(record)) {
+            refuse_if(!is_signed(memory, b, golden), 12)?;
+            hashed += 1;
+        }
         refuse_if(target_records.iter().any(|record| word(record, X) >= LIMIT), 13)?;
         change_blocks::<M>(ledger, t, X, 1);
+        put_marks(ledger, t, M, MARKED);
     }
-    Ok(())
+    Ok(hashed)
+}
+
+#[inline(always)]
+fn put_marks(ledger: &mut [u8], t: usize, m: u32, mark: u32) {
+    for record in &mut records_mut(ledger)[t..t + m as usize] {
+        put_word(record, MARK, mark);
+    }
 }
 
 /// Adds to a word of the records of M blocks, modulo 2^32.
@@ -739,7 +801,7 @@ fn judge_map_l2(
     index: u32,
     target: u32,
     rights: u32,
-) -> Judged {
+) -> Judged<u32> {
     let region = Region::stored(memory, ledger)?;
     judge_image(golden)?;
     let at = l2_slot(region, ledger, block, index, true)?;
@@ -747,6 +809,7 @@ fn judge_map_l2(
     let t = region.place(target, 1).ok_or(10u32)?;
     let record = &mut records_mut(ledger)[t];
     let (w, x) = (word(record, W), word(record, X));
+    let mut hashed = 0;
     if rights & WRITE != 0 {
         refuse_if(word(record, TYPE) != DATA, 10)?;
         refuse_if(rights & EXECUTE != 0 || x > 0, 11)?;
@@ -755,14 +818,20 @@ fn judge_map_l2(
     } else if rights & EXECUTE != 0 {
         refuse_if(target == block, 10)?;
         refuse_if(w > 0, 11)?;
-        refuse_if(!is_signed(memory, t, golden), 12)?;
+        if !is_marked(record) {
+            refuse_if(!is_signed(memory, t, golden), 12)?;
+            hashed = 1;
+        }
         refuse_if(x >= LIMIT, 13)?;
         put_word(record, X, x + 1);
+        put_word(record, MARK, MARKED);
     }
     put_word(memory, at, target << 12 | PAGE_BITS[rights as usize]);
-    Ok(())
+    unmark(ledger, at);
+    Ok(hashed)
 }
 
+#[allow(clippy::too_many_arguments)]
 #[inline(never)]
 pub fn map_l1(
     memory: &mut [u8],
@@ -772,10 +841,12 @@ pub fn map_l1(
     index: u32,
     target: u32,
     rights: u32,
+    hashed: &mut u32,
 ) -> u32 {
-    answer(judge_map_l1(memory, ledger, golden, block, index, target, rights))
+    answer_and_hashed(judge_map_l1(memory, ledger, golden, block, index, target, rights), hashed)
 }
 
+#[allow(clippy::too_many_arguments)]
 #[inline(never)]
 pub fn map_l2(
     memory: &mut [u8],
@@ -785,10 +856,12 @@ pub fn map_l2(
     index: u32,
     target: u32,
     rights: u32,
+    hashed: &mut u32,
 ) -> u32 {
-    answer(judge_map_l2(memory, ledger, golden, block, index, target, rights))
+    answer_and_hashed(judge_map_l2(memory, ledger, golden, block, index, target, rights), hashed)
 }
 
+#[allow(clippy::too_many_arguments)]
 #[inline(never)]
 pub fn map_large(
     memory: &mut [u8],
@@ -798,8 +871,9 @@ pub fn map_large(
     index: u32,
     target: u32,
     rights: u32,
+    hashed: &mut u32,
 ) -> u32 {
-    answer(judge_map_large(memory, ledger, golden, block, index, target, rights))
+    answer_and_hashed(judge_map_large(memory, ledger, golden, block, index, target, rights), hashed)
 }
 
 #[inline(always)]
@@ -814,6 +888,7 @@ fn judge_link(memory: &mut [u8], ledger: &mut [u8], block: u32, index: u32, targ
     refuse_if(l >= LIMIT, 13)?;
     put_word(record, L, l + 1);
     put_word(memory, at, target << 12 | table << 10 | 1);
+    unmark(ledger, at);
     Ok(())
 }
 
@@ -839,6 +914,7 @@ fn judge_unmap_l1(memory: &mut [u8], ledger: &mut [u8], block: u32, index: u32) 
         Entry::Mapping(first, _, rights) => unmap_blocks::<SECTION_BLOCKS>(ledger, region, first, rights)?,
     }
     put_word(memory, at, 0);
+    unmark(ledger, at);
     Ok(())
 }
 
@@ -851,6 +927,7 @@ fn judge_unmap_large(memory: &mut [u8], ledger: &mut [u8], block: u32, index: u3
     let Entry::Mapping(first, _, rights) = large_entry(run) else { return Err(8) };
     unmap_blocks::<LARGE_BLOCKS>(ledger, region, first, rights)?;
     run.fill(0);
+    unmark(ledger, at);
     Ok(())
 }
 
@@ -891,6 +968,7 @@ fn judge_unmap_l2(memory: &mut [u8], ledger: &mut [u8], block: u32, index: u32) 
         _ => return Err(8),
     }
     put_word(memory, at, 0);
+    unmark(ledger, at);
     Ok(())
 }
 
@@ -989,12 +1067,29 @@ pub fn fetch(memory: &[u8], ledger: &[u8], address: u32, byte: &mut u8) -> u32 {
 }
 
 #[inline(never)]
-pub fn write(memory: &mut [u8], ledger: &[u8], address: u32, byte: u32) -> u32 {
+pub fn write(memory: &mut [u8], ledger: &mut [u8], address: u32, byte: u32) -> u32 {
     match walk(memory, ledger, address, WRITE) {
         Ok(at) => {
             memory[at] = byte as u8;
+            unmark(ledger, at);
             0
         }
         Err(number) => number,
     }
+}
+
+#[inline(always)]
+fn judge_forget(memory: &[u8], ledger: &mut [u8], block: u32, count: u32) -> Judged {
+    let region = Region::stored(memory, ledger)?;
+    if count == 0 {
+        return Ok(());
+    }
+    let t = region.place(block, count).ok_or(2u32)?;
+    put_marks(ledger, t, count, 0);
+    Ok(())
+}
+
+#[inline(never)]
+pub fn forget(memory: &[u8], ledger: &mut [u8], block: u32, count: u32) -> u32 {
+    answer(judge_forget(memory, ledger, block, count))
 }

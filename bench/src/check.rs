@@ -1,33 +1,36 @@
-//! The two programs do the same: answers, bytes given, memory and ledger, for every workload and for random calls.
-use crate::program::{Buffers, Monitor, Plain, Program};
+//! The two programs do the same: answers, bytes and numbers given, memory and ledger, for every workload and for random calls.
+use crate::baseline::COUNT;
+use crate::program::{Buffers, Given, Monitor, Plain, Program};
 use crate::sha256::sha256;
 use crate::workloads::Batch;
 use calls::random::Random;
-use calls::{ledger_bytes, Kind, BLOCK, LEDGER_RECORD};
+use calls::{ledger_bytes, Kind, BLOCK, LEDGER_HEAD, LEDGER_RECORD, MARKED};
 use std::collections::BTreeSet;
 
-fn given<P: Program>(kind: Kind, words: &[[u32; 4]], lent: &mut Buffers) -> Vec<(u32, u8)> {
+fn given<P: Program>(kind: Kind, words: &[[u32; 4]], lent: &mut Buffers) -> Vec<Given> {
     let mut all = Vec::new();
-    P::batch(kind, words, lent, |answer, byte| all.push((answer, byte)));
+    P::batch(kind, words, lent, |given| all.push(given));
     all
 }
 
 /// Makes the calls with both programs on equal buffers, and gives what both gave.
-fn both(kind: Kind, words: &[[u32; 4]], lent: &mut Buffers) -> Vec<(u32, u8)> {
+fn both(kind: Kind, words: &[[u32; 4]], lent: &mut Buffers) -> Vec<Given> {
     let mut other = lent.clone();
     let ours = given::<Monitor>(kind, words, lent);
     let plain = given::<Plain>(kind, words, &mut other);
     assert!(ours == plain, "{kind:?} {words:x?}: the monitor gives {ours:?}, the plain program {plain:?}");
     assert!(lent.memory == other.memory, "{kind:?} {words:x?}: the memory differs");
     assert!(lent.ledger == other.ledger, "{kind:?} {words:x?}: the ledger differs");
-    let cleared = other.scratch.chunks_exact(16).all(|record| record[4..] == [0; 12]);
+    let cleared = other.scratch.chunks_exact(COUNT).all(|count| count[4..] == [0; COUNT - 4]);
     assert!(cleared, "{kind:?} {words:x?}: counts are left in the scratch bytes");
     ours
 }
 
 pub fn check_workload(name: &str, batch: &Batch, lent: &Buffers) {
     let all = both(batch.kind, &batch.words, &mut lent.clone());
-    assert!(all.iter().all(|(answer, _)| *answer == batch.answer), "{name}: other answers than {}", batch.answer);
+    assert!(all.iter().all(|given| given.answer == batch.answer), "{name}: other answers than {}", batch.answer);
+    let hashed: u32 = all.iter().map(|given| given.hashed).sum();
+    assert!(hashed == batch.hashed, "{name}: {hashed} blocks hashed, not {}", batch.hashed);
 }
 
 /// The indices that are used.
@@ -49,7 +52,7 @@ impl Drawn {
             memory: vec![0; BLOCK * blocks],
             ledger: vec![0; ledger_bytes(blocks)],
             golden: [sha256(&[0; BLOCK]), [7; 32]].concat(),
-            scratch: vec![0; LEDGER_RECORD * blocks],
+            scratch: vec![0; COUNT * blocks],
         };
         let mut random = Random::new(seed);
         let first = 256 * random.below(4) as u32;
@@ -130,10 +133,20 @@ impl Drawn {
         self.lent.memory[4 * at..4 * (at + count)].as_chunks_mut().0.fill(word.to_le_bytes());
     }
 
+    /// The mark of a block near the region's start or end: marked, not marked, or neither 0 nor 1.
+    fn poke_mark(&mut self) {
+        let near = self.random.below(self.blocks.min(24));
+        let block = self.random.one_of(&[near, near, near, self.blocks - 1]);
+        let mark = self.random.one_of(&[0, MARKED, MARKED, 2, 0x101, u32::MAX]);
+        let at = LEDGER_HEAD + LEDGER_RECORD * block + 16;
+        self.lent.ledger[at..at + 4].copy_from_slice(&mark.to_le_bytes());
+    }
+
     /// A word of a record, or now and then the first block or the active table.
     fn poke_ledger(&mut self) {
-        let near = 2 + self.random.below(4 * self.blocks.min(16));
-        let last = self.lent.ledger.len() / 4 - 1 - self.random.below(4);
+        let words = LEDGER_RECORD / 4;
+        let near = 2 + self.random.below(words * self.blocks.min(16));
+        let last = self.lent.ledger.len() / 4 - 1 - self.random.below(words);
         let at = match self.random.below(20) {
             0 => self.random.below(2),
             1..=4 => last,
@@ -165,6 +178,12 @@ impl Drawn {
                 let address = l1_index << 20 | (l2_index % 256) << 12 | self.random.below(4096) as u32;
                 [address, self.random.next() as u32, 0, 0]
             }
+            Kind::Forget => {
+                let any = self.random.next() as u32 >> self.random.below(32);
+                let count = self.random.one_of(&[0, 1, 1, 2, 4, self.blocks as u32, any]);
+                let block = self.block();
+                [self.random.one_of(&[self.first, block]), count, 0, 0]
+            }
         }
     }
 
@@ -172,7 +191,7 @@ impl Drawn {
     fn call(&mut self, kind: Kind) -> u32 {
         let words = [self.words(kind)];
         if self.random.below(50) > 0 {
-            let (answer, _) = both(kind, &words, &mut self.lent)[0];
+            let answer = both(kind, &words, &mut self.lent)[0].answer;
             if kind == Kind::Begin && answer == 0 {
                 self.first = words[0][0];
             }
@@ -185,7 +204,7 @@ impl Drawn {
             2 => lent.ledger.truncate(self.random.below(9)),
             _ => lent.golden.push(0),
         }
-        both(kind, &words, &mut lent)[0].0
+        both(kind, &words, &mut lent)[0].answer
     }
 }
 
@@ -203,6 +222,9 @@ pub fn check_random(calls: usize) -> usize {
                 }
                 if list % 2 == 1 && drawn.random.below(4) == 0 {
                     drawn.poke_ledger();
+                }
+                if list % 4 >= 2 && drawn.random.below(4) == 0 {
+                    drawn.poke_mark();
                 }
                 let kind =
                     if drawn.random.below(100) == 0 { Kind::Begin } else { drawn.random.one_of(&Kind::ALL[1..]) };

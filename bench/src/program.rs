@@ -12,9 +12,17 @@ pub struct Buffers {
     pub scratch: Vec<u8>,
 }
 
-/// Makes a call for each list of words, one after the other, and gives each answer and byte to `note`.
+/// What a call gives: its answer, and a byte or the number of blocks hashed, 0 where it gives none.
+#[derive(Clone, Copy, PartialEq, Eq, Default, Debug)]
+pub struct Given {
+    pub answer: u32,
+    pub byte: u8,
+    pub hashed: u32,
+}
+
+/// Makes a call for each list of words, one after the other, and hands what each gives to `note`.
 pub trait Program {
-    fn batch(kind: Kind, words: &[[u32; NUMBERS]], lent: &mut Buffers, note: impl FnMut(u32, u8));
+    fn batch(kind: Kind, words: &[[u32; NUMBERS]], lent: &mut Buffers, note: impl FnMut(Given));
 }
 
 /// The proved monitor in libmonitor.a.
@@ -25,28 +33,33 @@ pub struct Plain;
 
 impl Program for Monitor {
     #[inline(always)]
-    fn batch(kind: Kind, words: &[[u32; NUMBERS]], lent: &mut Buffers, mut note: impl FnMut(u32, u8)) {
+    fn batch(kind: Kind, words: &[[u32; NUMBERS]], lent: &mut Buffers, mut note: impl FnMut(Given)) {
         let Buffers { memory, ledger, golden, .. } = lent;
         let lent = PerBuffer { memory, ledger, golden }.map(|buffer| buffer.as_mut_slice().into());
-        let mut byte = 0;
-        let outputs = Outputs { byte: &raw mut byte };
-        // SAFETY: the buffers and the byte are apart, and nothing else uses them meanwhile.
-        unsafe { repeat(kind, words, lent, outputs, |answer| note(answer, *outputs.byte)) }
+        let (mut byte, mut hashed) = (0, 0);
+        let outputs = Outputs { byte: &raw mut byte, hashed: &raw mut hashed };
+        let note = |answer| {
+            // SAFETY: nothing writes the outputs between two calls.
+            let (byte, hashed) = unsafe { (*outputs.byte, *outputs.hashed) };
+            note(Given { answer, byte, hashed });
+        };
+        // SAFETY: the buffers and the outputs are apart, and nothing else uses them during a call.
+        unsafe { repeat(kind, words, lent, outputs, note) }
     }
 }
 
 /// One loop to a kind of call, so that nothing but the call itself is in it.
 macro_rules! batches {
-    ($words:expr, $note:expr, $kind:expr, { $($name:ident($call:pat, $byte:pat) => $made:expr,)* }) => {
+    ($words:expr, $note:expr, $kind:expr, { $($name:ident($call:pat, $output:pat) => $made:expr,)* }) => {
         match $kind {
             $(Kind::$name => {
                 for $call in $words {
-                    let mut byte = 0;
-                    let answer = {
-                        let $byte = &mut byte;
+                    let mut given = Given::default();
+                    given.answer = {
+                        let $output = &mut given;
                         $made
                     };
-                    $note(answer, byte);
+                    $note(given);
                 }
             })*
         }
@@ -55,26 +68,29 @@ macro_rules! batches {
 
 impl Program for Plain {
     #[inline(always)]
-    fn batch(kind: Kind, words: &[[u32; NUMBERS]], lent: &mut Buffers, mut note: impl FnMut(u32, u8)) {
+    fn batch(kind: Kind, words: &[[u32; NUMBERS]], lent: &mut Buffers, mut note: impl FnMut(Given)) {
         let Buffers { memory, ledger, golden, scratch } = lent;
         let (memory, ledger, golden, scratch) = (&mut memory[..], &mut ledger[..], &golden[..], &mut scratch[..]);
         batches!(words, note, kind, {
             Begin(&[a, ..], _) => baseline::begin(memory, ledger, a),
-            CreateL1(&[a, ..], _) => baseline::create_l1(memory, ledger, golden, scratch, a),
-            CreateL2(&[a, ..], _) => baseline::create_l2(memory, ledger, golden, scratch, a),
+            CreateL1(&[a, ..], Given { hashed, .. }) => baseline::create_l1(memory, ledger, golden, scratch, a, hashed),
+            CreateL2(&[a, ..], Given { hashed, .. }) => baseline::create_l2(memory, ledger, golden, scratch, a, hashed),
             FreeL1(&[a, ..], _) => baseline::free_l1(memory, ledger, scratch, a),
             FreeL2(&[a, ..], _) => baseline::free_l2(memory, ledger, scratch, a),
-            MapL1(&[a, b, c, d], _) => baseline::map_l1(memory, ledger, golden, a, b, c, d),
-            MapL2(&[a, b, c, d], _) => baseline::map_l2(memory, ledger, golden, a, b, c, d),
+            MapL1(&[a, b, c, d], Given { hashed, .. }) => baseline::map_l1(memory, ledger, golden, a, b, c, d, hashed),
+            MapL2(&[a, b, c, d], Given { hashed, .. }) => baseline::map_l2(memory, ledger, golden, a, b, c, d, hashed),
             Link(&[a, b, c, d], _) => baseline::link(memory, ledger, a, b, c, d),
             UnmapL1(&[a, b, ..], _) => baseline::unmap_l1(memory, ledger, a, b),
             UnmapL2(&[a, b, ..], _) => baseline::unmap_l2(memory, ledger, a, b),
             Switch(&[a, ..], _) => baseline::switch(memory, ledger, a),
-            Read(&[a, ..], byte) => baseline::read(memory, ledger, a, byte),
+            Read(&[a, ..], Given { byte, .. }) => baseline::read(memory, ledger, a, byte),
             Write(&[a, b, ..], _) => baseline::write(memory, ledger, a, b),
-            Fetch(&[a, ..], byte) => baseline::fetch(memory, ledger, a, byte),
-            MapLarge(&[a, b, c, d], _) => baseline::map_large(memory, ledger, golden, a, b, c, d),
+            Fetch(&[a, ..], Given { byte, .. }) => baseline::fetch(memory, ledger, a, byte),
+            MapLarge(&[a, b, c, d], Given { hashed, .. }) => {
+                baseline::map_large(memory, ledger, golden, a, b, c, d, hashed)
+            },
             UnmapLarge(&[a, b, ..], _) => baseline::unmap_large(memory, ledger, a, b),
+            Forget(&[a, b, ..], _) => baseline::forget(memory, ledger, a, b),
         })
     }
 }

@@ -1,5 +1,5 @@
 //! The two programs timed in turns on the same buffers, which are restored before each run.
-use crate::program::{Buffers, Monitor, Plain, Program};
+use crate::program::{Buffers, Given, Monitor, Plain, Program};
 use crate::workloads::{Batch, TABLE_BLOCKS};
 use calls::BLOCK;
 use std::hint::black_box;
@@ -25,7 +25,8 @@ impl Start {
 #[inline(never)]
 pub fn run<P: Program>(batch: &Batch, lent: &mut Buffers) {
     let mut sum = 0u32;
-    P::batch(batch.kind, &batch.words, lent, |answer, byte| sum = sum.wrapping_add(answer + byte as u32));
+    let note = |given: Given| sum = sum.wrapping_add(given.answer + given.byte as u32 + given.hashed);
+    P::batch(batch.kind, &batch.words, lent, note);
     black_box(sum);
 }
 

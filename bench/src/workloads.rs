@@ -1,8 +1,9 @@
 //! What is measured: a prepared memory and ledger, and a batch of calls of one kind, all with the same answer.
-use crate::program::{Buffers, Plain, Program};
+use crate::baseline::COUNT;
+use crate::program::{Buffers, Given, Plain, Program};
 use crate::sha256::sha256;
 use calls::random::Random;
-use calls::{ledger_bytes, Kind, BLOCK, LEDGER_RECORD};
+use calls::{ledger_bytes, Kind, BLOCK};
 use Kind::*;
 
 /// The region's first block.
@@ -32,6 +33,14 @@ pub struct Batch {
     pub words: Vec<[u32; 4]>,
     /// The answer of each of its calls.
     pub answer: u32,
+    /// How many blocks all of them hash.
+    pub hashed: u32,
+}
+
+impl Batch {
+    fn hashing(self, blocks: u32) -> Batch {
+        Batch { hashed: blocks, ..self }
+    }
 }
 
 pub struct Workload {
@@ -54,7 +63,7 @@ impl Scene {
             memory: vec![0; BLOCK * blocks],
             ledger: vec![0; ledger_bytes(blocks)],
             golden: Vec::new(),
-            scratch: vec![0; LEDGER_RECORD * blocks],
+            scratch: vec![0; COUNT * blocks],
         };
         let mut scene = Scene { lent, blocks };
         scene.accepted(Begin, &[[FIRST, 0, 0, 0]]);
@@ -62,7 +71,8 @@ impl Scene {
     }
 
     fn accepted(&mut self, kind: Kind, words: &[[u32; 4]]) {
-        Plain::batch(kind, words, &mut self.lent, |answer, _| assert!(answer == 0, "{kind:?} answers {answer}"));
+        let note = |given: Given| assert!(given.answer == 0, "{kind:?} answers {}", given.answer);
+        Plain::batch(kind, words, &mut self.lent, note);
     }
 
     fn put_entry(&mut self, block: u32, index: u32, word: u32) {
@@ -170,6 +180,12 @@ impl Scene {
             self.put_entry(L2_BLOCK, i, (DATA + i % TARGETS) << 12 | 0x02E);
         }
     }
+
+    /// Executable pages of all targets in the other L2 block, so that the targets are marked.
+    fn mark_targets(&mut self) {
+        let words: Vec<_> = (0..TARGETS).map(|i| [OTHER_L2_BLOCK, i, DATA + i, READ_EXECUTE]).collect();
+        self.accepted(MapL2, &words);
+    }
 }
 
 /// The words of a page, a large page and a section with some rights.
@@ -200,9 +216,14 @@ fn section(first: u32, rights: u32) -> u32 {
     first << 12 | access
 }
 
-/// A batch of accepted calls.
+/// A batch of accepted calls that hash nothing.
 fn accepted(kind: Kind, words: Vec<[u32; 4]>) -> Batch {
-    Batch { kind, words, answer: 0 }
+    Batch { kind, words, answer: 0, hashed: 0 }
+}
+
+/// A batch of calls that are refused with this number.
+fn refused(kind: Kind, words: Vec<[u32; 4]>, answer: u32) -> Batch {
+    Batch { kind, words, answer, hashed: 0 }
 }
 
 /// The addresses of a guest's accesses.
@@ -231,7 +252,7 @@ const fn workload(name: &'static str, least: usize, make: fn(&mut Scene) -> Batc
 }
 
 /// Calls that hash nothing.
-pub static CALLS: [Workload; 42] = [
+pub static CALLS: [Workload; 48] = [
     workload("begin", 64, |_| accepted(Begin, vec![[FIRST, 0, 0, 0]; 64])),
     workload("create L1, empty", 64, |_| accepted(CreateL1, vec![[L1_TABLE, 0, 0, 0]])),
     workload("create L1, 16 sections, 64 links", 512, |scene| {
@@ -253,6 +274,12 @@ pub static CALLS: [Workload; 42] = [
     workload("create L2, 64 scattered pages", 64, |scene| {
         let word = |scene: &Scene, i: u32| if i % 16 == 5 { page(scene.data(97 * i), READ_WRITE) } else { 0 };
         accepted(CreateL2, scene.pages(word))
+    }),
+    workload("create L2, 1,024 executable of 64, marked", 512, |scene| {
+        scene.accepted(CreateL2, &[[OTHER_L2_BLOCK, 0, 0, 0]]);
+        scene.written_targets(1024);
+        scene.mark_targets();
+        accepted(CreateL2, vec![[L2_BLOCK, 0, 0, 0]])
     }),
     workload("create L2, 64 read-only large pages", 64, |scene| {
         accepted(CreateL2, scene.pages(|scene, i| large_page(scene.sixteen(i / LARGE_BLOCKS), READ_ONLY)))
@@ -297,6 +324,12 @@ pub static CALLS: [Workload; 42] = [
         scene.tables();
         accepted(MapL1, (0..MANY).map(|i| [L1_TABLE, 4 * i, scene.section(i), READ_ONLY]).collect())
     }),
+    workload("map L1, executable section, marked", 512, |scene| {
+        scene.tables();
+        scene.sign_zeros();
+        scene.accepted(MapL1, &[[OTHER_L1_TABLE, 0, scene.section(0), READ_EXECUTE]]);
+        accepted(MapL1, (0..64).map(|i| [L1_TABLE, i, scene.section(0), READ_EXECUTE]).collect())
+    }),
     workload("map L2, writable page", 64, |scene| {
         scene.tables();
         accepted(MapL2, page_maps(scene))
@@ -305,6 +338,12 @@ pub static CALLS: [Workload; 42] = [
         scene.tables();
         accepted(MapL2, (0..1024).map(|i| [L2_BLOCK, i, scene.data(i), READ_ONLY]).collect())
     }),
+    workload("map L2, executable page, marked", 512, |scene| {
+        scene.tables();
+        scene.sign_targets();
+        scene.mark_targets();
+        accepted(MapL2, (0..1024).map(|i| [L2_BLOCK, i, DATA + i % TARGETS, READ_EXECUTE]).collect())
+    }),
     workload("map large, writable", 64, |scene| {
         scene.tables();
         accepted(MapLarge, large_maps(scene, READ_WRITE))
@@ -312,6 +351,13 @@ pub static CALLS: [Workload; 42] = [
     workload("map large, read-only", 64, |scene| {
         scene.tables();
         accepted(MapLarge, large_maps(scene, READ_ONLY))
+    }),
+    workload("map large, executable, marked", 512, |scene| {
+        scene.tables();
+        scene.sign_targets();
+        scene.mark_targets();
+        let words = (0..64).map(|i| [L2_BLOCK, LARGE_BLOCKS * i, scene.sixteen(i % 4), READ_EXECUTE]);
+        accepted(MapLarge, words.collect())
     }),
     workload("link", 64, |scene| {
         scene.tables();
@@ -379,19 +425,21 @@ pub static CALLS: [Workload; 42] = [
         scene.guest_pages(READ_EXECUTE);
         accepted(Fetch, guest_addresses())
     }),
+    workload("forget, one block", 64, |scene| accepted(Forget, (0..MANY).map(|i| [scene.data(i), 1, 0, 0]).collect())),
+    workload("forget, the whole region", 64, |scene| accepted(Forget, vec![[FIRST, scene.blocks as u32, 0, 0]; 64])),
     workload("map L2, refusal 2", 64, |scene| {
         scene.tables();
         let words = (0..MANY).map(|i| [FIRST - 1 - i, i, DATA, READ_WRITE]).collect();
-        Batch { kind: MapL2, words, answer: 2 }
+        refused(MapL2, words, 2)
     }),
     workload("map L2, refusal 11", 64, |scene| {
         scene.guest_pages(READ_EXECUTE);
         let words = (0..MANY).map(|i| [OTHER_L2_BLOCK, i, DATA + i % GUEST_PAGES, READ_WRITE]).collect();
-        Batch { kind: MapL2, words, answer: 11 }
+        refused(MapL2, words, 11)
     }),
     workload("create L2, refusal 2", 64, |_| {
         let words = (0..MANY).map(|i| [FIRST - 1 - i, 0, 0, 0]).collect();
-        Batch { kind: CreateL2, words, answer: 2 }
+        refused(CreateL2, words, 2)
     }),
     workload("create L2, refusal 11 at the last page", 64, |scene| {
         scene.guest_pages(READ_EXECUTE);
@@ -400,15 +448,15 @@ pub static CALLS: [Workload; 42] = [
             scene.put_entry(block, i, (DATA + GUEST_PAGES + i % 16) << 12 | 0x03F);
         }
         scene.put_entry(block, 1023, DATA << 12 | 0x03F);
-        Batch { kind: CreateL2, words: vec![[block, 0, 0, 0]; 4], answer: 11 }
+        refused(CreateL2, vec![[block, 0, 0, 0]; 4], 11)
     }),
     workload("free L2, refusal 6", 64, |scene| {
         scene.guest_pages(READ_WRITE);
-        Batch { kind: FreeL2, words: vec![[L2_BLOCK, 0, 0, 0]; MANY as usize], answer: 6 }
+        refused(FreeL2, vec![[L2_BLOCK, 0, 0, 0]; MANY as usize], 6)
     }),
     workload("read, refusal 23", 64, |scene| {
         scene.guest_pages(0);
-        Batch { kind: Read, words: guest_addresses(), answer: 23 }
+        refused(Read, guest_addresses(), 23)
     }),
 ];
 
@@ -416,23 +464,24 @@ pub static CALLS: [Workload; 42] = [
 pub static HASHING_CALLS: [Workload; 4] = [
     workload("create L2, 64 executable pages", 512, |scene| {
         scene.written_targets(TARGETS);
-        accepted(CreateL2, vec![[L2_BLOCK, 0, 0, 0]])
+        accepted(CreateL2, vec![[L2_BLOCK, 0, 0, 0]]).hashing(TARGETS)
     }),
     workload("create L2, 1,024 executable pages of 64", 512, |scene| {
         scene.written_targets(1024);
-        accepted(CreateL2, vec![[L2_BLOCK, 0, 0, 0]])
+        accepted(CreateL2, vec![[L2_BLOCK, 0, 0, 0]]).hashing(TARGETS)
     }),
     workload("map L2, executable page", 512, |scene| {
         scene.tables();
         scene.sign_targets();
-        accepted(MapL2, (0..TARGETS).map(|i| [L2_BLOCK, i, DATA + i, READ_EXECUTE]).collect())
+        let words = (0..TARGETS).map(|i| [L2_BLOCK, i, DATA + i, READ_EXECUTE]);
+        accepted(MapL2, words.collect()).hashing(TARGETS)
     }),
     workload("map large, executable", 512, |scene| {
         scene.tables();
         scene.sign_targets();
         let targets = TARGETS / LARGE_BLOCKS;
         let words = (0..targets).map(|i| [L2_BLOCK, LARGE_BLOCKS * i, scene.sixteen(i), READ_EXECUTE]);
-        accepted(MapLarge, words.collect())
+        accepted(MapLarge, words.collect()).hashing(TARGETS)
     }),
 ];
 
@@ -447,7 +496,7 @@ pub static HOSTILE_TABLES: [Workload; 12] = [
                 page(scene.data(16), READ_EXECUTE)
             }
         };
-        Batch { kind: CreateL2, words: scene.pages(word), answer: 12 }
+        refused(CreateL2, scene.pages(word), 12)
     }),
     workload("create L2, half writable, half executable", 64, |scene| {
         let word = |scene: &Scene, i| {
@@ -457,7 +506,7 @@ pub static HOSTILE_TABLES: [Workload; 12] = [
                 page(scene.data(16 + i % 16), READ_EXECUTE)
             }
         };
-        Batch { kind: CreateL2, words: scene.pages(word), answer: 12 }
+        refused(CreateL2, scene.pages(word), 12)
     }),
     workload("create L2, the same, but one clashes", 64, |scene| {
         let word = |scene: &Scene, i| match i {
@@ -465,7 +514,7 @@ pub static HOSTILE_TABLES: [Workload; 12] = [
             511 => page(scene.data(16), READ_WRITE),
             _ => page(scene.data(16 + i % 16), READ_EXECUTE),
         };
-        Batch { kind: CreateL2, words: scene.pages(word), answer: 11 }
+        refused(CreateL2, scene.pages(word), 11)
     }),
     workload("create L2, executable, read-only in turn", 64, |scene| {
         scene.sign_zeros();
@@ -473,14 +522,16 @@ pub static HOSTILE_TABLES: [Workload; 12] = [
             CreateL2,
             scene.pages(|scene, i| page(scene.data(0), if i % 2 == 0 { READ_EXECUTE } else { READ_ONLY })),
         )
+        .hashing(1)
     }),
     workload("create L2, read-only, then executable", 64, |scene| {
         scene.sign_zeros();
         accepted(CreateL2, scene.pages(|scene, i| page(scene.data(0), if i < 512 { READ_ONLY } else { READ_EXECUTE })))
+            .hashing(1)
     }),
     workload("create L2, 1,024 executable pages of one", 64, |scene| {
         scene.sign_zeros();
-        accepted(CreateL2, scene.pages(|scene, _| page(scene.data(0), READ_EXECUTE)))
+        accepted(CreateL2, scene.pages(|scene, _| page(scene.data(0), READ_EXECUTE))).hashing(1)
     }),
     workload("create L1, 4,095 writable, 1 executable", 512, |scene| {
         let word = |scene: &Scene, i| {
@@ -490,7 +541,7 @@ pub static HOSTILE_TABLES: [Workload; 12] = [
                 section(FIRST, READ_EXECUTE)
             }
         };
-        Batch { kind: CreateL1, words: scene.sections(word), answer: 12 }
+        refused(CreateL1, scene.sections(word), 12)
     }),
     workload("create L1, half writable, half executable", 512, |scene| {
         let word = |scene: &Scene, i| {
@@ -500,7 +551,7 @@ pub static HOSTILE_TABLES: [Workload; 12] = [
                 section(FIRST, READ_EXECUTE)
             }
         };
-        Batch { kind: CreateL1, words: scene.sections(word), answer: 12 }
+        refused(CreateL1, scene.sections(word), 12)
     }),
     workload("create L1, the same, but one clashes", 512, |scene| {
         let word = |scene: &Scene, i| match i {
@@ -508,7 +559,7 @@ pub static HOSTILE_TABLES: [Workload; 12] = [
             2048 => section(scene.section(0), READ_EXECUTE),
             _ => section(FIRST, READ_EXECUTE),
         };
-        Batch { kind: CreateL1, words: scene.sections(word), answer: 11 }
+        refused(CreateL1, scene.sections(word), 11)
     }),
     workload("create L1, executable, read-only in turn", 512, |scene| {
         scene.sign_zeros();
@@ -516,6 +567,7 @@ pub static HOSTILE_TABLES: [Workload; 12] = [
             CreateL1,
             scene.sections(|scene, i| section(scene.section(0), if i % 2 == 0 { READ_EXECUTE } else { READ_ONLY })),
         )
+        .hashing(SECTION_BLOCKS as u32)
     }),
     workload("create L1, read-only, then executable", 512, |scene| {
         scene.sign_zeros();
@@ -523,9 +575,11 @@ pub static HOSTILE_TABLES: [Workload; 12] = [
             CreateL1,
             scene.sections(|scene, i| section(scene.section(0), if i < 2048 { READ_ONLY } else { READ_EXECUTE })),
         )
+        .hashing(SECTION_BLOCKS as u32)
     }),
     workload("create L1, 4,096 executable sections", 512, |scene| {
         scene.sign_zeros();
-        accepted(CreateL1, scene.sections(|scene, i| section(scene.section(i), READ_EXECUTE)))
+        let blocks = (scene.blocks - SECTION_BLOCKS) as u32;
+        accepted(CreateL1, scene.sections(|scene, i| section(scene.section(i), READ_EXECUTE))).hashing(blocks)
     }),
 ];
