@@ -21,12 +21,13 @@ struct mapping {
     uint32_t index, asked, held;
 };
 
+/* What the guest may write is forgotten at once: it is hashed again before it is executed (box 2). */
 static uint32_t map(struct mapping *m, uint32_t rights)
 {
-    uint32_t answer = pagemon_map_l2(REGION, golden, sizeof golden, PAGES, m->index, CODE, rights);
+    uint32_t hashed = 0, answer = pagemon_map_l2(REGION, golden, sizeof golden, PAGES, m->index, CODE, rights, &hashed);
     if (answer == PAGEMON_ACCEPTED)
         m->held = rights;
-    return answer;
+    return answer == PAGEMON_ACCEPTED && rights & PAGEMON_WRITE ? pagemon_forget(REGION, CODE, 1) : answer;
 }
 
 /* The rights that a mapping gets: those asked for, or, where write and execute clash, only read for the time being. */
@@ -76,12 +77,13 @@ int main(void)
 {
     struct mapping writer = {WRITER, PAGEMON_READ | PAGEMON_WRITE, 0}, runner = {RUNNER, PAGEMON_READ | PAGEMON_EXECUTE, 0};
     uint8_t byte = 0;
+    uint32_t hashed = 0;
 
     memset(memory + CODE * PAGEMON_BLOCK_BYTES, 0x1E, PAGEMON_BLOCK_BYTES); /* the code that is known to be good */
     signature_sha256(memory + CODE * PAGEMON_BLOCK_BYTES, PAGEMON_BLOCK_BYTES, golden);
     expect("begin", pagemon_begin(REGION, 0), 0);
-    expect("create the L1 table", pagemon_create_l1(REGION, golden, sizeof golden, TABLE), 0);
-    expect("create the L2 block", pagemon_create_l2(REGION, golden, sizeof golden, PAGES), 0);
+    expect("create the L1 table", pagemon_create_l1(REGION, golden, sizeof golden, TABLE, &hashed), 0);
+    expect("create the L2 block", pagemon_create_l2(REGION, golden, sizeof golden, PAGES, &hashed), 0);
     expect("link", pagemon_link(REGION, TABLE, 0, PAGES, 0), 0);
     expect("switch", pagemon_switch(REGION, TABLE), 0);
 
