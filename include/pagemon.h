@@ -113,7 +113,8 @@ uint32_t pagemon_begin(const uint8_t *memory, size_t memory_length, uint8_t *led
  * Every create and map sets `*hashed`: when accepted, the number of blocks that it hashed, which are the different blocks to which its entries
  * give execute and which were not marked; when refused, 0. `hashed` is aligned as a uint32_t is, and points into none of the buffers.
  *
- * After an accepted create or map that lets the guest write to blocks, these are to be forgotten before the guest runs on: pagemon_forget.
+ * Right after an accepted create or map that lets the guest write to blocks, and before the guest runs on, these are to be forgotten: see
+ * pagemon_forget.
  */
 uint32_t pagemon_create_l1(const uint8_t *memory, size_t memory_length, uint8_t *ledger, size_t ledger_length, const uint8_t *golden,
                            size_t golden_length, uint32_t block, uint32_t *hashed);
