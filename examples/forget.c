@@ -108,8 +108,10 @@ static void requests_by_create(void)
     expect("unmap", pagemon_unmap_l2(REGION, PAGES, PAGE), PAGEMON_ACCEPTED);
     expect_hashed("create a table that writes", pagemon_create_l2(REGION, golden, sizeof golden, NEW_PAGES, &hashed), PAGEMON_ACCEPTED, 0);
     expect("forget what it writes", forget_written(NEW_PAGES), PAGEMON_ACCEPTED);
+    expect("link it", pagemon_link(REGION, TABLE, 1, NEW_PAGES, 0), PAGEMON_ACCEPTED);
     the_processor_writes();
-    expect("free it, after the processor has written", pagemon_free_l2(REGION, NEW_PAGES), PAGEMON_ACCEPTED);
+    expect("take the link away, after a write", pagemon_unmap_l1(REGION, TABLE, 1), PAGEMON_ACCEPTED);
+    expect("free it", pagemon_free_l2(REGION, NEW_PAGES), PAGEMON_ACCEPTED);
     expect_map("map to execute: not signed", EXECUTES, PAGEMON_UNSIGNED, 0);
 }
 
