@@ -97,6 +97,7 @@ REFUSALS = {
     "a push of 2 bytes": ("*f { push ax; pop ax; ret }", r"f: 0: push ax: a push that is not known"),
     "flags": ("*f { pushf; popf; ret }", r"f: 0: pushf: an instruction of which"),
     "a system call": ("*f { syscall; ret }", r"f: 0: syscall: an instruction of which"),
+    "an address below the stack pointer": ("*f { lea rdi, [rsp - 8]; ret }", r"f: 0: lea .*: a place below the stack pointer$"),
     "a place far below the stack pointer": ("*f { mov [rsp - 136], rdi; ret }", r"f: 0: mov .*: a place below the stack pointer$"),
     "a place below the stack pointer by a register": ("*f { mov [rsp + rdi * 8 - 8], rdi; ret }", r"f: 0: mov .*: a place below the stack pointer$"),
     "depths that differ where two paths meet": (

@@ -106,7 +106,7 @@ def moved(mnemonic, operands):
 def in_red_zone(mnemonic, operands):
     """A place below the stack pointer, which a function that calls no other may use for 128 bytes."""
     places = [RED_ZONE.fullmatch(operand) for operand in operands if BELOW.search(operand)]
-    if mnemonic not in KNOWN or not all(places) or any(int(place[1], 16) > RED_ZONE_BYTES for place in places):
+    if mnemonic not in KNOWN or mnemonic == "lea" or not all(places) or any(int(place[1], 16) > RED_ZONE_BYTES for place in places):
         raise Unreadable("a place below the stack pointer")
     return Effect(NEXT, below=max(int(place[1], 16) for place in places))
 

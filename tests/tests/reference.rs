@@ -399,7 +399,7 @@ fn the_guest_unmarks_what_it_writes() {
     }
 }
 
-/// Create marks what it executes, itself too; free, switch and begin of another region.
+/// Create marks what it executes, itself too; free and switch leave the marks, and begin clears them, of the same region too.
 #[test]
 fn tables_and_marks() {
     let mut scene = Scene::new(0x100, 16);

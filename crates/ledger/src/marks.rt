@@ -43,7 +43,7 @@ pub fn clear_mark(ledger: &mut [u8], b: usize)
     put_record_word(ledger, MARK, b, NO_MARK);
 }
 
-// The m blocks from b on.
+// Clears the marks of the m blocks from b on.
 pub fn clear_marks(ledger: &mut [u8], b: usize, m: usize)
     requires { ⌜ InLedger (now ledger) (b + m) ⌝ }
     ensures { λ r. ⌜ now (ledger .exit) ≡ clearMarks (now (ledger .entry)) b m ⌝ }
@@ -53,7 +53,7 @@ pub fn clear_marks(ledger: &mut [u8], b: usize, m: usize)
     }
 }
 
-// Of the first b + m blocks, those from b on.
+// Marks the m blocks from b on.
 fn mark_blocks(ledger: &mut [u8], b: usize, m: usize)
     requires { ⌜ InLedger (now ledger) (b + m) ⌝ }
     ensures { λ r. ⌜ now (ledger .exit) ≡ markBlocks (now (ledger .entry)) (b + m) (leb b) ⌝ }
@@ -97,7 +97,7 @@ pub fn mark_executed(memory: &[u8], ledger: &mut [u8], e: Entry, p: u32, m: u32)
     }
 }
 
-// How many of them are to be hashed before that.
+// How many of them are not marked yet: those that had to be hashed (calls 8).
 pub fn hashed_blocks(memory: &[u8], ledger: &[u8], e: Entry, p: u32, m: u32) -> u32
     requires { ⌜ Fits (now memory) (now ledger) × GrantsInside (now memory) (now ledger) (meaning e) p m ⌝ }
     ensures { λ r. ⌜ ((n : ℕ) (x : ℕ → specified.Entry) → Spreads n x (meaning e) p m → r ≡ hashedBlocks (lent (now (memory .entry)) (now (ledger .entry))) n x) ⌝ }

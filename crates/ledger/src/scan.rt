@@ -44,7 +44,7 @@ pub fn is_signed_block(memory: &[u8], golden: &[u8], first: u32, p: u32) -> bool
 }
 
 // Block p of the region is neither marked nor signed. A marked block is not hashed.
-pub fn is_unknown(memory: &[u8], ledger: &[u8], golden: &[u8], p: u32) -> bool
+fn is_unknown(memory: &[u8], ledger: &[u8], golden: &[u8], p: u32) -> bool
     requires { ⌜ Fits (now memory) (now ledger) × BlocksInside (now memory) (now ledger) p 1 ⌝ }
     ensures { λ r. ⌜ r ≡ unknown (now (golden .entry)) (lent (now (memory .entry)) (now (ledger .entry))) p ⌝ }
 {

@@ -1,4 +1,4 @@
--- The claim about a whole list of steps: demand 3, and that neither 13 nor 24 is answered (RULES: lists).
+-- The claim about a whole list of steps: demand 3, that what is marked is signed, and that neither 13 nor 24 is answered (RULES: lists).
 use mathlib.Core.Bool.{true}
 use mathlib.Core.List.{List}
 use mathlib.Core.Logic.{_≢_}

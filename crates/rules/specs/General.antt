@@ -80,7 +80,7 @@ retyped d v s p =
 unfoldable pub hashedBlocks : Store → ℕ → (ℕ → Entry) → ℕ
 hashedBlocks s m e = count (blocks s) (λ b. executed m e (base s + b) && not (marked s (base s + b)))
 
--- create leaves, map leaves, calls 8: this store with the blocks marked that the m entries e execute, which were added to store s; and how many were hashed
+-- create leaves, map leaves, calls 8: after with the blocks marked that the m entries e execute, and how many of these were not marked in s, the store at the call
 abbrev pub admitting : Store → ℕ → (ℕ → Entry) → Store → Accepted
 admitting s m e after =
     record { store = record { memory = after .memory; ledger = markBlocks (after .ledger) (blocks s) (λ b. executed m e (base s + b)) }; byte = 0; hashed = hashedBlocks s m e }

@@ -26,6 +26,6 @@ unfoldable pub settle : ℕ → Store → Accepted → Outcome
 settle zero old new = record { answer = 0; after = new .store; byte = new .byte; hashed = new .hashed }
 settle (suc k) old new = record { answer = suc k; after = old; byte = 0; hashed = 0 }
 
--- calls 2, calls 3, calls 4: the outcome of a call on store s, by its list of refusals and what acceptance leaves and gives
+-- calls 2, calls 3, calls 4, calls 5, calls 8: the outcome of a call on store s, by its list of refusals and what acceptance leaves and gives
 abbrev pub callOutcome : List Refusal → Store → Accepted → Outcome
 callOutcome refusals s new = settle (answerOf refusals) s new

@@ -1,4 +1,4 @@
--- The golden image in the calls, and the blocks of the memory that it signs (RULES: signature, refusal).
+-- The golden image in the calls, the blocks of the memory that it signs, and those that are neither marked nor signed (RULES: signature, refusal, create, map).
 use mathlib.Core.Bool.{Bool, not, _&&_}
 use mathlib.Core.List.{List, [], _∷_}
 use Prim.Native.Nat.{ℕ, _-_, _*_}

@@ -43,7 +43,7 @@ obey golden s (switches p) = switchOutcome s p
 obey golden s (accesses a addr) = guestOutcome a s addr
 obey golden s (forgets p m) = forgetOutcome s p m
 
--- lists 3: what comes of a list: the store reached, every answer, and every byte given (0 where a step gives none)
+-- lists 3: what comes of a list: the store reached, every answer, and every byte given (0 where a step gives none); numbers are left out
 pub record Run : Type 0 where
   pub reached : Store
   pub answers : List ℕ

@@ -60,7 +60,7 @@ fn create_refusal(
     new_entries_refusal(level, memory, ledger, golden, members, hashed, block, j, m)
 }
 
-// The types of its blocks, the counts of its entries, and the marks of what they execute (create leaves).
+// The types of its blocks, the counts of its entries, and the marks of what they execute (create leaves); and how many of these were hashed (calls 8).
 pub fn create(
     level: Level,
     memory: &[u8],

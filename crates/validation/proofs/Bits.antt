@@ -80,7 +80,7 @@ empty-set n b =
     (λ (l : 8 * n ≤ b). rw (List·getD-eq-default {A = ℕ} (replicate n 0) 0 {n = b / 8} (rw (length-replicate {A = ℕ} n 0) (omega arith))) (any-none (λ i. isSet 0 i) 8 zero-bits (b % 8) (omega arith)))
     (below-or-above b (8 * n))
 
--- the turns of a loop that members the blocks from b on
+-- the turns of a loop by which the blocks from b on join the set
 pub members-start : (members : List ℕ) (b k : ℕ) → member members k ≡ (member members k || among b 0 k)
 members-start members b k = rw (among-out b 0 k (λ l. omega arith)) (sym (or-false (member members k)))
 

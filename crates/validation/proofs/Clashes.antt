@@ -226,12 +226,6 @@ module _ (s : Store) (m : ℕ) (e : ℕ → Entry) where
         gathered .joined b ∙ any-avoids (λ i. gives executable (e i) (base s + b)) m (λ i l.
         false-unless (gives executable (e i) (base s + b)) (λ g. let (lo, hi) = given-inside (base s) (blocks s) executable (e i) (base s + b) (placed i l) g in omega arith))
 
-    -- without an entry that writes, none meets it
-    pub none-meets-members : writes ≡ 0 → false ≡ any m (λ i. meetsMembers (s .ledger) members (e i))
-    unfolding meetsMembers
-    none-meets-members z =
-        sym (any-avoids (λ i. meetsMembers (s .ledger) members (e i)) m (λ i l. rw (any-none (λ i. grants writable (e i)) m (gathered .none-writes z) i l) refl))
-
     pub clash-found : any m (λ i. meetsCount (s .ledger) (e i)) ≡ false → ((i : ℕ) → i < m → astray (base s) (blocks s) (e i) ≡ false)
         → {t r : Bool} → r ≡ any m (λ i. meetsMembers (s .ledger) members (e i)) → r ≡ t → someRegionBlock s (clashes s m e) ≡ t
     clash-found f placed q h = sym (clash-members members just-executed f placed) ∙ sym q ∙ h

@@ -1,5 +1,5 @@
-// Refusals 11 and 12 of a table of which some entry executes: the blocks that its entries execute join a set first, so that
-// each entry is then looked at once for 11, and each block hashed once for 12, unless it is marked.
+// Refusals 11 and 12 of a table of which some entry executes, by the set of the blocks that its entries execute: each entry is looked at once more for 11,
+// if some entry writes, and each block hashed once for 12, unless it is marked. And the marks of that set.
 use crate::hash::UNKNOWN;
 use crate::hash::hash_members;
 use crate::set::contains;
@@ -75,7 +75,7 @@ fn some_meets_members(
     false
 }
 
-// The same, where it is known whether some entry writes: else none does.
+// The same. Where the number is 0 no entry writes, and so none a block of the set.
 fn some_clashes(
     level: Level,
     memory: &[u8],
@@ -115,7 +115,7 @@ fn mark_members(ledger: &mut [u8], members: &[u8], n: usize)
     }
 }
 
-// The same, where it is known how many of them are not marked.
+// The same, where it is known how many of them are not marked: if none, nothing changes.
 pub fn admit_members(ledger: &mut [u8], members: &[u8], n: usize, hashed: u32)
     requires { ⌜ InLedger (now ledger) n × WholeSet (now members) × (n ≤ store.mostBlocks) ⌝ }
     requires { ⌜ hashed ≡ count n (memberHashed (now ledger) (now members)) ⌝ }

@@ -16,7 +16,7 @@ const BYTE_BLOCKS: usize = 8;
 // More than any number of blocks: some block that is to be hashed is not signed.
 pub const UNKNOWN: u32 = 0x1_0000;
 
-// 1 for a block of the set that is not marked, or UNKNOWN if it is not signed. A block behind the region is not in the set.
+// 1 for a block of the set that is not marked and is signed, UNKNOWN for one that is neither, 0 for any other. The set has no block behind the region.
 fn hash_block(memory: &[u8], ledger: &[u8], golden: &[u8], members: &[u8], b: usize) -> u32
     requires { ⌜ Fits (now memory) (now ledger) × WholeSet (now members) × InRegionOnly (lent (now memory) (now ledger)) (now members) × (b < store.mostBlocks) ⌝ }
     ensures { λ r. ⌜ r ≡ hashNumber (now (golden .entry)) (lent (now (memory .entry)) (now (ledger .entry))) (now (members .entry)) b 1 ⌝ }
@@ -34,7 +34,7 @@ fn hash_block(memory: &[u8], ledger: &[u8], golden: &[u8], members: &[u8], b: us
     UNKNOWN
 }
 
-// The blocks of byte i of the set.
+// How many blocks of byte i of the set are not marked, or UNKNOWN if one of these is not signed.
 fn hash_eight(memory: &[u8], ledger: &[u8], golden: &[u8], members: &[u8], i: usize) -> u32
     requires { ⌜ Fits (now memory) (now ledger) × WholeSet (now members) × InRegionOnly (lent (now memory) (now ledger)) (now members) × (8 * i + 8 ≤ store.mostBlocks) ⌝ }
     ensures { λ r. ⌜ r ≡ hashNumber (now (golden .entry)) (lent (now (memory .entry)) (now (ledger .entry))) (now (members .entry)) (8 * i) 8 ⌝ }
@@ -50,7 +50,7 @@ fn hash_eight(memory: &[u8], ledger: &[u8], golden: &[u8], members: &[u8], i: us
     n
 }
 
-// The same. Most bytes have no block.
+// The same. Most bytes have no block, and are passed over.
 fn hash_byte(memory: &[u8], ledger: &[u8], golden: &[u8], members: &[u8], i: usize) -> u32
     requires { ⌜ Fits (now memory) (now ledger) × WholeSet (now members) × InRegionOnly (lent (now memory) (now ledger)) (now members) × (8 * i + 8 ≤ store.mostBlocks) ⌝ }
     ensures { λ r. ⌜ r ≡ hashNumber (now (golden .entry)) (lent (now (memory .entry)) (now (ledger .entry))) (now (members .entry)) (8 * i) 8 ⌝ }

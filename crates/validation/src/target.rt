@@ -1,4 +1,4 @@
-// Tests of one entry against the ledger (create 8, create 10, create 11).
+// Tests of one entry against the ledger (create 8, create 10, create 11), and what a look at it adds to the set.
 use crate::cover::cover_counts;
 use crate::cover::cover_differs;
 use crate::cover::overlap;

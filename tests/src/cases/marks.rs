@@ -128,7 +128,7 @@ fn values(kind: Kind, comparer: &mut Comparer) -> Outcome {
     Ok(())
 }
 
-/// Some of the executed blocks are marked, three of them among others; the unsigned one is marked or not.
+/// Seven choices of which executed blocks are marked; and one block that is not signed, marked or not.
 fn some_marked(kind: Kind, comparer: &mut Comparer) -> Outcome {
     let (setup, executed) = executing(kind);
     let all = executed.len();
@@ -158,7 +158,7 @@ fn some_marked(kind: Kind, comparer: &mut Comparer) -> Outcome {
     Ok(())
 }
 
-/// All executed blocks are marked and none is signed, not even by an image.
+/// All executed blocks are marked, and the image is empty, so that none is signed.
 fn many_unsigned(kind: Kind, comparer: &mut Comparer) -> Outcome {
     let (mut setup, executed) = executing(kind);
     setup.scene.set_marks(executed.clone(), MARKED);
