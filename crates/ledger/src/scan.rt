@@ -13,11 +13,14 @@ ghost use Rattle.rules.specs.Signature.{signedBlock, unknown};
 ghost use Rattle.rules.specs.Store.{blockBytes, lent, recordWord, recordWords, someBlock};
 ghost use Rattle.ledger.specs.Needs.{BlocksInside, Fits, InLedger};
 
-// Word k differs from v in some of the m records from block b on.
+// Word k differs from v in some of the m records from block b on. Most often it is one record, which is looked at without the loop.
 pub fn some_differs(ledger: &[u8], k: usize, b: usize, m: usize, v: u32) -> bool
     requires { ⌜ (k < recordWords) × InLedger (now ledger) (b + m) ⌝ }
     ensures { λ r. ⌜ r ≡ any m (λ i. neqb (recordWord (now (ledger .entry)) k (b + i)) v) ⌝ }
 {
+    if m == 1 {
+        return record_word(ledger, k, b) != v;
+    }
     for i in 0..m {
         if record_word(ledger, k, b + i) != v {
             return true;
