@@ -13,7 +13,7 @@ use Rattle.words.specs.Words.{bits, word}
 use Rattle.words.proofs.Bounded.{and-true, and-true-left, any-none, any-avoids, any-hit, any-same, differ, same, below-or-above}
 use Rattle.words.proofs.Fields.{bits-low}
 use Rattle.entries.specs.Rights.{acceptedAP, mayRead, mayWrite, mayExecute, rightsOf}
-use Rattle.entries.specs.Entries.{Entry, fault, unaccepted, link, section, page, large, Level, l1, l2, sectionAP, sectionXN, pageAP, pageXN, largeXN, isLinkForm, isSectionForm, isPageForm, isLargeForm, l1Entry, l2Entry, runWords, runWord, isRun, entryAt, codeOf, wordCode, pageCode, isFault, isLink, isSection, isPage, isLarge, sectionBlocks, largeBlocks}
+use Rattle.entries.specs.Entries.{Entry, fault, unaccepted, link, section, page, large, Level, l1, l2, sectionAP, sectionXN, pageAP, pageXN, largeXN, isLinkForm, isSectionForm, isPageForm, isLargeForm, l1Entry, l2Entry, runWords, runWord, isRun, entryAt, hasPageBit, codeOf, wordCode, pageCode, isFault, isUnaccepted, isLink, isSection, isPage, isLarge, sectionBlocks, largeBlocks}
 use Rattle.entries.proofs.Covers.{standsAlone}
 
 -- Words of level 2
@@ -99,12 +99,9 @@ module _ (w : ℕ) where
   unfolding wordCode
   wordCode-large h = ap codeOf (by-large-tests true 0 h) ∙ code-of-large (bits w 12 20) (rightsOf (pageAP w) (pageXN w)) (first + 0) _ (isLargeForm w)
 
-  -- so of a word with the form of either they are 8 and its rights
+  -- so of a word with the form of a page they are 8 and its rights
   pub wordCode-page-form : isPageForm w ≡ true → wordCode w ≡ 8 + rightsOf (pageAP w) (pageXN w)
   wordCode-page-form h = rw h at (wordCode-page (pageForm-bit w h))
-
-  pub wordCode-large-form : isLargeForm w ≡ true → wordCode w ≡ 8 + rightsOf (pageAP w) (largeXN w)
-  wordCode-large-form h = rw h at (wordCode-large (largeForm-bits w h))
 
   -- an L2 entry by its form
   module _ (k : ℕ) where
@@ -222,6 +219,45 @@ module _ (mem : List ℕ) (j w : ℕ) (is : w ≡ word mem (4 * j)) where
   pub entryAt-unaccepted : bits w 0 2 ≢ 0b00 → isPageForm w ≡ false → (isLargeForm w && isRun mem j) ≡ false → unaccepted ≡ entryAt l2 mem j
   unfolding entryAt
   entryAt-unaccepted h p q = sym (l2Entry-neither w (j % runWords) (isRun mem j) h p q) ∙ ap (l2Entry (isRun mem j) (j % runWords)) is
+
+-- Accepted words: bits 1..0 alone tell their form
+
+accepted-cond : (t : Bool) (e : Entry) → isUnaccepted (cond t e unaccepted) ≡ false → t ≡ true
+unfolding isUnaccepted
+accepted-cond true e h = refl
+accepted-cond false e h = absurd (false≢true (sym h))
+
+module _ (w : ℕ) (taken : isUnaccepted (l1Entry w) ≡ false) where
+  pub accepted-link : bits w 0 2 ≡ 0b01 → isLinkForm w ≡ true
+  unfolding l1Entry isSectionForm
+  accepted-link h = accepted-cond (isLinkForm w) _ (rw h at taken)
+
+  pub accepted-section : bits w 0 2 ≢ 0b00 → bits w 0 2 ≢ 0b01 → isSectionForm w ≡ true
+  unfolding l1Entry isLinkForm
+  accepted-section h k = accepted-cond (isSectionForm w) _ (rw (ne-eqb (bits w 0 2) 0b00 h, ne-eqb (bits w 0 2) 0b01 k) at taken)
+
+module _ (mem : List ℕ) (j w : ℕ) (is : w ≡ word mem (4 * j)) (taken : isUnaccepted (entryAt l2 mem j) ≡ false) where
+  l2-taken : isUnaccepted (l2Entry (isRun mem j) (j % runWords) w) ≡ false
+  unfolding entryAt
+  l2-taken = rw is taken
+
+  pub accepted-page : bits w 1 1 ≡ 1 → isPageForm w ≡ true
+  unfolding byTests
+  accepted-page h = accepted-cond (isPageForm w) _ (rw (by-page-tests w (isRun mem j) (j % runWords) h) at l2-taken)
+
+  pub accepted-large : bits w 0 2 ≢ 0b00 → bits w 1 1 ≢ 1 → (isLargeForm w ≡ true) × (isRun mem j ≡ true)
+  unfolding byTests
+  accepted-large h k =
+      let low : bits w 0 2 ≡ 0b01 = omega arith in
+      and-true _ _ (accepted-cond (isLargeForm w && isRun mem j) _ (rw (by-large-tests w (isRun mem j) (j % runWords) low) at l2-taken))
+
+-- so an accepted word with the bit of a page is one
+pub accepted-page-bit : (v : Level) (mem : List ℕ) (j w : ℕ) → w ≡ word mem (4 * j) → isUnaccepted (entryAt v mem j) ≡ false → hasPageBit v w ≡ true
+    → (isPageForm w ≡ true) × (page (bits w 12 20) (rightsOf (pageAP w) (pageXN w)) ≡ entryAt v mem j)
+accepted-page-bit l1 mem j w is taken h = absurd (false≢true h)
+accepted-page-bit l2 mem j w is taken h =
+    let form = accepted-page mem j w is taken (eqb-true _ _ h) in
+    (form, entryAt-page mem j w is form)
 
 -- no page, large or not, stands in an L1 table, and no link and no section in an L2 table
 cond-not : (q : Entry → Bool) (t : Bool) (e f : Entry) → q e ≡ false → q f ≡ false → q (cond t e f) ≡ false

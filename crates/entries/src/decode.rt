@@ -10,10 +10,10 @@ use words::WORD_BYTES;
 ghost use mathlib.Core.Path.{_≡_};
 ghost use mathlib.Core.Bool.{false, true};
 ghost use mathlib.Core.Logic.{_≢_};
-ghost use Prim.Native.Nat.{_*_};
+ghost use Prim.Native.Nat.{_+_, _*_, _%_};
 ghost use Rattle.words.specs.Words.{bits, word};
 ghost use Rattle.entries.specs.Rights.{rightsOf};
-ghost use Rattle.entries.specs.Entries.{entryAt, isLargeForm, isLinkForm, isPageForm, isRun, isSectionForm, l1, l1Entry, l2, pageAP, pageXN, sectionAP, sectionBlocks, sectionXN, sectionZeros, wordCode};
+ghost use Rattle.entries.specs.Entries.{entryAt, hasPageBit, isLargeForm, isLinkForm, isPageForm, isRun, isSectionForm, isUnaccepted, l1, l1Entry, l2, largeBlocks, largeXN, pageAP, pageXN, runWords, sectionAP, sectionBlocks, sectionXN, sectionZeros, wordCode};
 ghost use Rattle.entries.specs.Meaning.{levelOf, meaning};
 ghost use Rattle.entries.specs.Needs.{HoldsRun, HoldsWord};
 
@@ -181,6 +181,17 @@ fn is_run(mem: &[u8], j: usize, w: u32) -> bool
     true
 }
 
+// The block and the rights of an entry of a large page, which is w and word j of the memory.
+fn large_mapping(j: usize, w: u32) -> Mapping
+    ensures { λ r. ⌜ (r .first ≡ largeBlocks * bits w 16 16 + j % runWords) × (r .rights ≡ rightsOf (pageAP w) (largeXN w)) ⌝ }
+{
+    let rights = rights_of(page_ap(w), words::bits(w, 15, 1));
+    Mapping {
+        first: LARGE_BLOCKS * words::bits(w, 16, 16) + (j % RUN_WORDS) as u32,
+        rights,
+    }
+}
+
 // Word j of the memory, which is w, read as an entry of an L2 table. It is neither a fault nor a page.
 fn large_entry(mem: &[u8], j: usize, w: u32) -> Entry
     requires { ⌜ HoldsRun (now mem) j × (w ≡ word (now mem) (4 * j)) ⌝ }
@@ -193,10 +204,7 @@ fn large_entry(mem: &[u8], j: usize, w: u32) -> Entry
     if !is_run(mem, j, w) {
         return Entry::Unaccepted;
     }
-    Entry::Large(Mapping {
-        first: LARGE_BLOCKS * words::bits(w, 16, 16) + (j % RUN_WORDS) as u32,
-        rights: (word_code(w) - LEAST_ACCEPTED) as u32,
-    })
+    Entry::Large(large_mapping(j, w))
 }
 
 // Word j of the memory, which is w, read as an entry of an L2 table.
@@ -251,4 +259,78 @@ pub fn entry_at(level: Level, mem: &[u8], j: usize) -> Entry
         return Entry::Fault;
     }
     entry_of(level, mem, j, w)
+}
+
+// A word of an L1 table that is accepted, and no fault: bits 1..0 tell a link from a section.
+fn accepted_l1_entry(w: u32) -> Entry
+    requires { ⌜ (bits w 0 2 ≢ 0b00) × (isUnaccepted (l1Entry w) ≡ false) ⌝ }
+    ensures { λ r. ⌜ meaning r ≡ l1Entry w ⌝ }
+{
+    if words::bits(w, 0, 2) == LINK_FORM {
+        return Entry::Link(words::bits(w, 10, 22));
+    }
+    Entry::Section(section_mapping(w))
+}
+
+// Word j of the memory, which is w, read as an entry of an L2 table. It is accepted, and no fault: bit 1 tells a page from a large page.
+fn accepted_l2_entry(mem: &[u8], j: usize, w: u32) -> Entry
+    requires { ⌜ w ≡ word (now mem) (4 * j) ⌝ }
+    requires { ⌜ (bits w 0 2 ≢ 0b00) × (isUnaccepted (entryAt l2 (now mem) j) ≡ false) ⌝ }
+    ensures { λ r. ⌜ meaning r ≡ entryAt l2 (now (mem .entry)) j ⌝ }
+{
+    if words::bits(w, 1, 1) == 1 {
+        return Entry::Page(page_mapping(w));
+    }
+    Entry::Large(large_mapping(j, w))
+}
+
+// Word j of the memory, which is w, read as an entry of a table of this level. It is accepted: its zeros, its AP and its run are not looked at again.
+fn accepted_entry_of(level: Level, mem: &[u8], j: usize, w: u32) -> Entry
+    requires { ⌜ w ≡ word (now mem) (4 * j) ⌝ }
+    requires { ⌜ isUnaccepted (entryAt (levelOf level) (now mem) j) ≡ false ⌝ }
+    ensures { λ r. ⌜ meaning r ≡ entryAt (levelOf level) (now (mem .entry)) j ⌝ }
+{
+    if words::bits(w, 0, 2) == FAULT_FORM {
+        return Entry::Fault;
+    }
+    match level {
+        Level::L1 => accepted_l1_entry(w),
+        Level::L2 => accepted_l2_entry(mem, j, w),
+    }
+}
+
+// Word j of the memory, read as an entry of a table of this level, where it is known to be accepted.
+pub fn accepted_entry(level: Level, mem: &[u8], j: usize) -> Entry
+    requires { ⌜ HoldsWord (now mem) j ⌝ }
+    requires { ⌜ isUnaccepted (entryAt (levelOf level) (now mem) j) ≡ false ⌝ }
+    ensures { λ r. ⌜ meaning r ≡ entryAt (levelOf level) (now (mem .entry)) j ⌝ }
+{
+    accepted_entry_of(level, mem, j, words::word(mem, WORD_BYTES * j))
+}
+
+// An accepted word of this level is a page.
+fn has_page_bit(level: Level, w: u32) -> bool
+    ensures { λ r. ⌜ r ≡ hasPageBit (levelOf level) w ⌝ }
+{
+    match level {
+        Level::L1 => false,
+        Level::L2 => words::bits(w, 1, 1) == 1,
+    }
+}
+
+// The same as `accepted_entry`. Faults and pages are told apart first: small enough to be compiled into the loops over a table, as `accepted_entry_of`,
+// which has more than one caller, is not.
+pub fn accepted_entry_at(level: Level, mem: &[u8], j: usize) -> Entry
+    requires { ⌜ HoldsWord (now mem) j ⌝ }
+    requires { ⌜ isUnaccepted (entryAt (levelOf level) (now mem) j) ≡ false ⌝ }
+    ensures { λ r. ⌜ meaning r ≡ entryAt (levelOf level) (now (mem .entry)) j ⌝ }
+{
+    let w = words::word(mem, WORD_BYTES * j);
+    if words::bits(w, 0, 2) == FAULT_FORM {
+        return Entry::Fault;
+    }
+    if has_page_bit(level, w) {
+        return Entry::Page(page_mapping(w));
+    }
+    accepted_entry_of(level, mem, j, w)
 }

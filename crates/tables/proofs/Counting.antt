@@ -337,7 +337,7 @@ module _ (d : Change) {v : Level} {memory ledger : List ℕ} {j m : ℕ} (pre : 
     placed-reached k l = rw (reached, head-recounted d store i entry basePlace (omega arith)) (pre .placed k l)
 
     pub table-reached : (k : ℕ) → k ≤ m → TablePlaced v memory led j k
-    table-reached k l = record { fits = fits-reached; holds = omega (arith, pre .holds); placed = λ n h. placed-reached n (omega arith) }
+    table-reached k l = record { fits = fits-reached; holds = omega (arith, pre .holds); accepted = λ n h. pre .accepted n (omega arith); placed = λ n h. placed-reached n (omega arith) }
 
     -- the next can be tested, counted if there is room, and is then counted too
     module _ (l : i < m) {e : Entry} (is : e ≡ entryFrom v memory j i) where

@@ -6,12 +6,14 @@ use Rattle.rules.specs.Store.{blockWords, Store, blocks, base, recordWord, Coun
 use Rattle.rules.specs.Tables.{tableEntries, gain}
 use Rattle.rules.specs.General.{Change, added, removed}
 use Rattle.ledger.specs.Needs.{Fits, TableInside, recordOf}
-use Rattle.validation.specs.Needs.{AllPlaced}
+use Rattle.validation.specs.Needs.{AllAccepted, AllPlaced}
 
--- refusal 1, refusal 2, create 10, free 10: 1 and 2 do not apply to a table at block p, and its entries have their places in the region
+-- refusal 1, refusal 2, create 8, create 10, free 8, free 10: 1 and 2 do not apply to a table at block p, and its entries are accepted and have their places in
+-- the region
 pub record TableReady (v : Level) (memory ledger : List ℕ) (p : ℕ) : Type 0 where
   pub fits : Fits memory ledger
   pub inside : TableInside v memory ledger p
+  pub accepted : AllAccepted v memory (blockWords * recordOf ledger p) (tableEntries v)
   pub placed : AllPlaced v memory ledger (blockWords * recordOf ledger p) (tableEntries v)
 
 -- calls 1: a counter can change by k and does not overflow

@@ -2,7 +2,8 @@
 // Refusal 13 shows on the way or at the end, and what was counted is then taken back (calls 3).
 use crate::own::first_word;
 use crate::own::put_types;
-use entries::decode::entry_at;
+use entries::decode::accepted_entry;
+use entries::decode::accepted_entry_at;
 use entries::entry::Entry;
 use entries::entry::Level;
 use ledger::bounds::entry_beyond;
@@ -87,21 +88,22 @@ fn count_until_stuck(
     ensures { λ r. ⌜ Counted (changeOf change) (lent (now (memory .entry)) (now (ledger .entry))) m (entryFrom (levelOf level) (now (memory .entry)) j) r (now (ledger .exit)) ⌝ }
 {
     for i in 0..m {
-        if !count_entry(change, memory, ledger, entry_at(level, memory, j + i)) {
+        let e = accepted_entry_at(level, memory, j + i);
+        if !count_entry(change, memory, ledger, e) {
             return i;
         }
     }
     m
 }
 
-// Counts m entries.
+// Counts m entries. This is rare: so it reads by `accepted_entry`, which is compiled once.
 fn count_all(change: Change, level: Level, memory: &[u8], ledger: &mut [u8], j: usize, m: usize)
     requires { ⌜ TablePlaced (levelOf level) (now memory) (now ledger) j m ⌝ }
     requires { ⌜ AllStorable (changeOf change) (lent (now memory) (now ledger)) m (entryFrom (levelOf level) (now memory) j) ⌝ }
     ensures { λ r. ⌜ now (ledger .exit) ≡ recounted (changeOf change) (lent (now (memory .entry)) (now (ledger .entry))) m (entryFrom (levelOf level) (now (memory .entry)) j) ⌝ }
 {
     for i in 0..m {
-        change_entry(change, memory, ledger, entry_at(level, memory, j + i));
+        change_entry(change, memory, ledger, accepted_entry(level, memory, j + i));
     }
 }
 
@@ -111,7 +113,8 @@ fn some_above_limit(level: Level, memory: &[u8], ledger: &[u8], j: usize, m: usi
     ensures { λ r. ⌜ r ≡ any m (λ i. entryBeyond 0 counterLimit (now (ledger .entry)) (entryFrom (levelOf level) (now (memory .entry)) j i)) ⌝ }
 {
     for i in 0..m {
-        if entry_beyond(ledger, entry_at(level, memory, j + i), 0, COUNTER_LIMIT) {
+        let e = accepted_entry_at(level, memory, j + i);
+        if entry_beyond(ledger, e, 0, COUNTER_LIMIT) {
             return true;
         }
     }

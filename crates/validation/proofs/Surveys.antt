@@ -8,7 +8,7 @@ use native.Mathlib.Omega.{arith}
 use lib.Dec.{ltb}
 use borrow.Author.Tests.{le-ltb, ltb-true, ltb-false}
 use Rattle.words.specs.Bounded.{any}
-use Rattle.words.proofs.Bounded.{any-hit, any-found, any-step, flag-next}
+use Rattle.words.proofs.Bounded.{any-none, any-hit, any-found, any-step, flag-next}
 use Rattle.entries.specs.Entries.{Entry, fault, Level, isFault, isUnaccepted, isLink, rights, placeBlocks}
 use Rattle.entries.specs.Rights.{allows}
 use Rattle.rules.specs.Create.{misplaced, unfitLink, unfitWrite}
@@ -236,6 +236,9 @@ module _ (v : Level) (golden : List ℕ) (s : Store) (p m : ℕ) (e : ℕ → En
   module _ (accepted : found ≢ 4) where
     all-accepted : bad ≡ false
     all-accepted = not-4 bad unplaced counted executing (λ h. accepted (is ∙ h))
+
+    pub accepted-all : (i : ℕ) → i < m → isUnaccepted (e i) ≡ false
+    accepted-all = any-none (λ i. isUnaccepted (e i)) m all-accepted
 
     rest-3 : found ≡ finding false unplaced counted executing
     rest-3 = is ∙ ap (λ (t : Bool). finding t unplaced counted executing) all-accepted

@@ -5,7 +5,7 @@ use mathlib.Core.Path.{_≡_}
 use Prim.Native.Nat.{ℕ, _+_, _*_, _%_, _<_, _≤_}
 use lib.ListN.{length}
 use Rattle.words.specs.Words.{word}
-use Rattle.entries.specs.Entries.{Entry, Level, runWords, coverFirst, coverBlocks}
+use Rattle.entries.specs.Entries.{Entry, Level, runWords, isUnaccepted, coverFirst, coverBlocks}
 use Rattle.rules.specs.Store.{basePlace, lent, blocks, base}
 use Rattle.rules.specs.Tables.{astray}
 use Rattle.ledger.specs.Needs.{InLedger, Fits, recordOf}
@@ -31,8 +31,14 @@ Placed memory ledger e = Fits memory ledger × InRegion memory ledger e
 abbrev pub AllPlaced : Level → List ℕ → List ℕ → ℕ → ℕ → Type 0
 AllPlaced v memory ledger j m = (i : ℕ) → i < m → InRegion memory ledger (entryFrom v memory j i)
 
--- refusal 1, create 10, free 10: 1 does not apply, and the m entries from word j on can be read and have their places in the region
+-- create 8, free 8: these entries are accepted
+abbrev pub AllAccepted : Level → List ℕ → ℕ → ℕ → Type 0
+AllAccepted v memory j m = (i : ℕ) → i < m → isUnaccepted (entryFrom v memory j i) ≡ false
+
+-- refusal 1, create 8, create 10, free 8, free 10: 1 does not apply, and the m entries from word j on can be read, are accepted and have their places in the
+-- region
 pub record TablePlaced (v : Level) (memory ledger : List ℕ) (j m : ℕ) : Type 0 where
   pub fits : Fits memory ledger
   pub holds : HoldsWords memory j m
+  pub accepted : AllAccepted v memory j m
   pub placed : AllPlaced v memory ledger j m

@@ -5,7 +5,7 @@ use crate::hash::hash_members;
 use crate::set::contains;
 use crate::set::contains_some;
 use crate::set::insert_blocks;
-use entries::decode::entry_at;
+use entries::decode::accepted_entry_at;
 use entries::entry::Entry;
 use entries::entry::Level;
 use entries::entry::cover_blocks;
@@ -68,7 +68,8 @@ fn some_meets_members(
     ensures { λ r. ⌜ r ≡ any m (λ i. meetsMembers (now (ledger .entry)) (now (members .entry)) (entryFrom (levelOf level) (now (memory .entry)) j i)) ⌝ }
 {
     for i in 0..m {
-        if meets_members(memory, ledger, members, entry_at(level, memory, j + i)) {
+        let e = accepted_entry_at(level, memory, j + i);
+        if meets_members(memory, ledger, members, e) {
             return true;
         }
     }

@@ -1,13 +1,10 @@
 -- `entries::decode::large_entry` meets its contract: the form of a large page is accepted in a run, and in no other place.
 use mathlib.Core.Bool.{and-false}
-use mathlib.Core.Path.{_≡_, refl, sym, _∙_, ap₂}
-use Prim.Native.Nat.{ℕ, _+_, _-_, _*_, _%_}
-use native.Mathlib.Omega.{arith}
+use mathlib.Core.Path.{refl, sym, _∙_, ap₂}
 use borrow.Author.Needs.{needs}
 use borrow.Author.Tests.{not-true, not-false}
-use Rattle.entries.specs.Rights.{rightsOf}
-use Rattle.entries.specs.Entries.{large, pageAP, largeXN, isLargeForm}
-use Rattle.entries.proofs.Decoding.{wordCode-large-form, entryAt-large, entryAt-unaccepted}
+use Rattle.entries.specs.Entries.{large, isLargeForm}
+use Rattle.entries.proofs.Decoding.{entryAt-large, entryAt-unaccepted}
 use Rattle.entries.proofs.decode.large_entry.Statement.{statement}
 use Rattle.entries.proofs.decode.large_entry.Tie as tie
 
@@ -23,26 +20,12 @@ returns-2 c =
     let broken = sym (c .before .is-run .ensures) ∙ not-true (c .before .is-run .result) (c .if2 .taken) in
     entryAt-unaccepted (start .args .mem .now) (start .args .j) (start .args .w) (start .pre .0 .1) (start .pre .1 .0) (start .pre .1 .1) (rw broken (and-false (isLargeForm (start .args .w))))
 
--- the page rights of the word are 8 and its rights
-number : (c : tie.After-word-code) → c .word-code .result ≡ 8 + rightsOf (pageAP (c .before .before .before .before .before .before .before .args .w)) (largeXN (c .before .before .before .before .before .before .before .args .w))
-number c =
-    let form = sym (c .before .before .before .before .before .is-large-form .ensures) ∙ not-false (c .before .before .before .before .before .is-large-form .result) (c .before .before .before .before .if1 .left) in
-    c .word-code .ensures ∙ wordCode-large-form (c .before .before .before .before .before .before .before .args .w) form
-
-sub-t12 : tie.Need-sub-t12
-sub-t12 c = omega (arith, number c)
-
 returns-3 : tie.Need-returns-3
 returns-3 c =
-    let start = c .before .before .before .before .before .before .before in
-    let w = start .args .w in
-    let form = sym (c .before .before .before .before .before .is-large-form .ensures) ∙ not-false (c .before .before .before .before .before .is-large-form .result) (c .before .before .before .before .if1 .left) in
-    let run = sym (c .before .before .before .is-run .ensures) ∙ not-false (c .before .before .before .is-run .result) (c .before .before .if2 .left) in
-    let granted : c .word-code .result - 8 ≡ rightsOf (pageAP w) (largeXN w) = omega (arith, number c) in
-    ap₂ (λ (b r : ℕ). large (16 * b + start .args .j % 16) r) (c .before .bits .ensures) granted
-    ∙ entryAt-large (start .args .mem .now) (start .args .j) w (start .pre .0 .1) form run
+    let start = c .before .before .before .before .before .before in
+    let form = sym (c .before .before .before .before .is-large-form .ensures) ∙ not-false (c .before .before .before .before .is-large-form .result) (c .before .before .before .if1 .left) in
+    let run = sym (c .before .before .is-run .ensures) ∙ not-false (c .before .before .is-run .result) (c .before .if2 .left) in
+    ap₂ large (c .large-mapping .ensures .0) (c .large-mapping .ensures .1) ∙ entryAt-large (start .args .mem .now) (start .args .j) (start .args .w) (start .pre .0 .1) form run
 
 pub large-entry-spec : {M : Type 1} → statement M
-large-entry-spec =
-    tie.close
-    (tie.spec (search needs) returns (search needs) returns-2 (search needs) (search needs) (search needs) (search needs) (search needs) sub-t12 (search needs) returns-3)
+large-entry-spec = tie.close (tie.spec (search needs) returns (search needs) returns-2 (search needs) returns-3)

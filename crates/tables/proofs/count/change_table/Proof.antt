@@ -18,7 +18,7 @@ count-table-requires c κs =
     let pre = c .before .before .before .before .before .before .before .before .pre in
     let fit = fits _ _ (pre .fits) in
     let inside = within _ _ _ _ (pre .inside) in
-    record { fits = pre .fits; holds = omega (arith, c .before .before .before .before .first-word .ensures, c .before .table-entries .ensures); placed = λ i l. rw (c .before .before .before .before .first-word .ensures) (pre .placed i (omega (arith, c .before .table-entries .ensures))) }
+    record { fits = pre .fits; holds = omega (arith, c .before .before .before .before .first-word .ensures, c .before .table-entries .ensures); accepted = λ i l. rw (c .before .before .before .before .first-word .ensures) (pre .accepted i (omega (arith, c .before .table-entries .ensures))); placed = λ i l. rw (c .before .before .before .before .first-word .ensures) (pre .placed i (omega (arith, c .before .table-entries .ensures))) }
 
 returns : tie.Need-returns
 returns c =

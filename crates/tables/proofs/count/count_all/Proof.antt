@@ -23,25 +23,27 @@ loop-holds c =
     let bytes : Bytes (c .before .before .args .ledger .now) = λ i. omega (arith, c .slice-known .given i) in
     (omega arith, none-counted _ (c .before .before .pre .0) bytes .0)
 
-add-entry-at : tie.Need-add-entry-at Inv-loop μ-loop
-add-entry-at c = let h = c .before .before .before .before .before .pre .0 .holds in omega arith
+add-accepted-entry : tie.Need-add-accepted-entry Inv-loop μ-loop
+add-accepted-entry c = let h = c .before .before .before .before .before .pre .0 .holds in omega arith
 
-entry-at-requires : tie.Need-entry-at-requires Inv-loop μ-loop
-entry-at-requires c κs = let h = c .before .before .before .before .before .pre .0 .holds in omega arith
+accepted-entry-requires : tie.Need-accepted-entry-requires Inv-loop μ-loop
+accepted-entry-requires c κs =
+    let pre = c .before .before .before .before .before .pre .0 in
+    (omega (arith, pre .holds), pre .accepted (c .before .before .loop .i) (omega arith))
 
 change-entry-requires : tie.Need-change-entry-requires Inv-loop μ-loop
 change-entry-requires c κs =
     let pre = c .before .before .before .before .before .before .pre in
     let bytes : Bytes (c .before .before .before .before .before .before .args .ledger .now) = λ i. omega (arith, c .before .before .before .before .slice-known .given i) in
     let at = c .before .before .before .loop in
-    next-can _ (pre .0) bytes (at .i) (at .inv .1) (omega arith) (c .entry-at .ensures) (fewer-storable (changeOf (c .before .before .before .before .before .before .args .change)) (pre .0) bytes (at .i + 1) (c .before .before .before .before .before .before .args .m) (omega arith) (pre .1))
+    next-can _ (pre .0) bytes (at .i) (at .inv .1) (omega arith) (c .accepted-entry .ensures) (fewer-storable (changeOf (c .before .before .before .before .before .before .args .change)) (pre .0) bytes (at .i + 1) (c .before .before .before .before .before .before .args .m) (omega arith) (pre .1))
 
 loop-again : tie.Need-loop-again Inv-loop μ-loop
 loop-again c =
     let pre = c .before .before .before .before .before .before .before .before .before .pre in
     let bytes : Bytes (c .before .before .before .before .before .before .before .before .before .args .ledger .now) = λ i. omega (arith, c .before .before .before .before .before .before .before .slice-known .given i) in
     let at = c .before .before .before .before .before .before .loop in
-    (omega arith, next-counted _ (pre .0) bytes (at .i) (at .inv .1) (omega arith) (c .before .before .before .entry-at .ensures) (fewer-storable (changeOf (c .before .before .before .before .before .before .before .before .before .args .change)) (pre .0) bytes (at .i + 1) (c .before .before .before .before .before .before .before .before .before .args .m) (omega arith) (pre .1)) (c .before .before .change-entry .ensures))
+    (omega arith, next-counted _ (pre .0) bytes (at .i) (at .inv .1) (omega arith) (c .before .before .before .accepted-entry .ensures) (fewer-storable (changeOf (c .before .before .before .before .before .before .before .before .before .args .change)) (pre .0) bytes (at .i + 1) (c .before .before .before .before .before .before .before .before .before .args .m) (omega arith) (pre .1)) (c .before .before .change-entry .ensures))
 
 same-length : tie.Need-same-length Inv-loop μ-loop
 same-length c =
@@ -56,5 +58,5 @@ returns c =
 pub count-all-spec : {M : Type 1} → statement M
 count-all-spec =
     tie.close
-    (tie.spec Inv-loop μ-loop loop-holds add-entry-at entry-at-requires change-entry-requires (λ c. omega arith)
+    (tie.spec Inv-loop μ-loop loop-holds add-accepted-entry accepted-entry-requires change-entry-requires (λ c. omega arith)
     (λ c. omega arith) loop-again same-length returns)

@@ -27,15 +27,17 @@ loop-holds c = let bytes : Bytes (c .before .before .args .ledger .now) = λ i. 
     let none = none-counted (changeOf (c .before .before .args .change)) (c .before .before .pre) bytes in
     (omega arith, none .0, none .1)
 
-add-entry-at : tie.Need-add-entry-at Inv-loop μ-loop
-add-entry-at c = let h = c .before .before .before .before .before .pre .holds in omega arith
+add-accepted-entry-at : tie.Need-add-accepted-entry-at Inv-loop μ-loop
+add-accepted-entry-at c = let h = c .before .before .before .before .pre .holds in omega arith
 
-entry-at-requires : tie.Need-entry-at-requires Inv-loop μ-loop
-entry-at-requires c κs = let h = c .before .before .before .before .before .pre .holds in omega arith
+accepted-entry-at-requires : tie.Need-accepted-entry-at-requires Inv-loop μ-loop
+accepted-entry-at-requires c κs =
+    let pre = c .before .before .before .before .pre in
+    (omega (arith, pre .holds), pre .accepted (c .before .loop .i) (omega arith))
 
 count-entry-requires : tie.Need-count-entry-requires Inv-loop μ-loop
 count-entry-requires c κs = let bytes : Bytes (c .before .before .before .before .before .before .args .ledger .now) = λ i. omega (arith, c .before .before .before .before .slice-known .given i) in
-    next-ready _ (c .before .before .before .before .before .before .pre) bytes (c .before .before .before .loop .i) (c .before .before .before .loop .inv .1) (omega arith) (c .entry-at .ensures)
+    next-ready _ (c .before .before .before .before .before .before .pre) bytes (c .before .before .before .loop .i) (c .before .before .before .loop .inv .1) (omega arith) (c .before .accepted-entry-at .ensures)
 
 same-length : tie.Need-same-length Inv-loop μ-loop
 same-length c =
@@ -45,11 +47,11 @@ same-length c =
 
 returns : tie.Need-returns Inv-loop μ-loop
 returns c = let bytes : Bytes (c .before .before .before .before .before .before .before .before .before .before .args .ledger .now) = λ i. omega (arith, c .before .before .before .before .before .before .before .before .slice-known .given i) in
-    count-stops _ (c .before .before .before .before .before .before .before .before .before .before .pre) bytes (c .before .before .before .before .before .before .before .loop .i) (c .before .before .before .before .before .before .before .loop .inv .1) (omega arith) (c .before .before .before .before .entry-at .ensures) (c .before .before .before .before .before .before .before .loop .inv .2) (c .before .before .before .count-entry .ensures) (not-true _ (c .if1 .taken))
+    count-stops _ (c .before .before .before .before .before .before .before .before .before .before .pre) bytes (c .before .before .before .before .before .before .before .loop .i) (c .before .before .before .before .before .before .before .loop .inv .1) (omega arith) (c .before .before .before .before .before .accepted-entry-at .ensures) (c .before .before .before .before .before .before .before .loop .inv .2) (c .before .before .before .count-entry .ensures) (not-true _ (c .if1 .taken))
 
 loop-again : tie.Need-loop-again Inv-loop μ-loop
 loop-again c = let bytes : Bytes (c .before .before .before .before .before .before .before .before .before .before .args .ledger .now) = λ i. omega (arith, c .before .before .before .before .before .before .before .before .slice-known .given i) in
-    let (is, more) = count-goes-on _ (c .before .before .before .before .before .before .before .before .before .before .pre) bytes (c .before .before .before .before .before .before .before .loop .i) (c .before .before .before .before .before .before .before .loop .inv .1) (omega arith) (c .before .before .before .before .entry-at .ensures) (c .before .before .before .before .before .before .before .loop .inv .2) (c .before .before .before .count-entry .ensures) (not-false _ (c .if1 .left)) in
+    let (is, more) = count-goes-on _ (c .before .before .before .before .before .before .before .before .before .before .pre) bytes (c .before .before .before .before .before .before .before .loop .i) (c .before .before .before .before .before .before .before .loop .inv .1) (omega arith) (c .before .before .before .before .before .accepted-entry-at .ensures) (c .before .before .before .before .before .before .before .loop .inv .2) (c .before .before .before .count-entry .ensures) (not-false _ (c .if1 .left)) in
     (omega arith, is, more)
 
 same-length-2 : tie.Need-same-length-2 Inv-loop μ-loop
@@ -64,5 +66,5 @@ returns-2 c = let e : c .before .loop .i ≡ c .before .before .before .before .
 pub count-until-stuck-spec : {M : Type 1} → statement M
 count-until-stuck-spec =
     tie.close
-    (tie.spec Inv-loop μ-loop loop-holds add-entry-at entry-at-requires count-entry-requires same-length returns
+    (tie.spec Inv-loop μ-loop loop-holds add-accepted-entry-at accepted-entry-at-requires count-entry-requires same-length returns
     (λ c. omega arith) (λ c. omega arith) loop-again same-length-2 returns-2)

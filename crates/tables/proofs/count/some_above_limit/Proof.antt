@@ -16,21 +16,26 @@ Inv-loop level memory ledger j m i₀ i = Scanned (λ k. entryBeyond 0 counterLi
 abbrev μ-loop : tie.MeasureT-loop
 μ-loop level memory ledger j m i₀ i = m - i
 
+accepted-entry-at-requires : tie.Need-accepted-entry-at-requires Inv-loop μ-loop
+accepted-entry-at-requires c κs =
+    let pre = c .before .before .before .before .pre in
+    (omega (arith, pre .holds), pre .accepted (c .before .loop .i) (omega arith))
+
 entry-beyond-requires : tie.Need-entry-beyond-requires Inv-loop μ-loop
 entry-beyond-requires c κs =
     let a = c .before .before .before .before .before .args in
     let pre = c .before .before .before .before .before .pre in
-    rw (c .entry-at .ensures) (entry-recorded (lent (a .memory .now) (a .ledger .now)) _ (pre .fits) (pre .placed (c .before .before .loop .i) (omega arith)))
+    rw (c .accepted-entry-at .ensures) (entry-recorded (lent (a .memory .now) (a .ledger .now)) _ (pre .fits) (pre .placed (c .before .before .loop .i) (omega arith)))
 
 returns : tie.Need-returns Inv-loop μ-loop
-returns c = scan-found _ _ (c .before .before .before .before .loop .i) (omega arith) (told (rw (c .before .before .entry-at .ensures) at (c .before .entry-beyond .ensures)) (c .if1 .taken))
+returns c = scan-found _ _ (c .before .before .before .before .loop .i) (omega arith) (told (rw (c .before .before .accepted-entry-at .ensures) at (c .before .entry-beyond .ensures)) (c .if1 .taken))
 
 loop-again : tie.Need-loop-again Inv-loop μ-loop
-loop-again c = scan-next _ _ _ (c .before .before .before .before .loop .inv) (omega arith) (told (rw (c .before .before .entry-at .ensures) at (c .before .entry-beyond .ensures)) (c .if1 .left))
+loop-again c = scan-next _ _ _ (c .before .before .before .before .loop .inv) (omega arith) (told (rw (c .before .before .accepted-entry-at .ensures) at (c .before .entry-beyond .ensures)) (c .if1 .left))
 
 pub some-above-limit-spec : {M : Type 1} → statement M
 some-above-limit-spec =
     tie.close
-    (tie.spec Inv-loop μ-loop (λ c. scan-start _ _) (λ c. omega arith) (λ c κs. omega arith) entry-beyond-requires
+    (tie.spec Inv-loop μ-loop (λ c. scan-start _ _) (λ c. omega arith) accepted-entry-at-requires entry-beyond-requires
     returns (λ c. omega arith) (λ c. omega arith) loop-again
     (λ c. scan-end _ _ _ (c .before .loop .inv) (omega arith)))

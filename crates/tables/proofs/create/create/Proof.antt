@@ -2,7 +2,7 @@
 use mathlib.Core.Path.{refl, sym, _∙_, ap}
 use native.Mathlib.Omega.{arith}
 use borrow.Author.Tests.{not-true, not-false}
-use Rattle.words.proofs.Bounded.{told}
+use Rattle.words.proofs.Bounded.{told, any-none}
 use Rattle.rules.specs.Create.{createOutcome}
 use Rattle.rules.specs.Store.{lent}
 use Rattle.rules.proofs.Refusals.{passed, now, rest}
@@ -27,8 +27,8 @@ returns c = let judged = decides (refused _ _ (c .before .before .create-refusal
 change-table-requires : tie.Need-change-table-requires
 change-table-requires c κs = let p1 = passed _ (omega arith) (sym (c .before .before .before .create-refusal .ensures .0) ∙ c .before .if1 .left) in
     let p2 = rest (rest p1) in
-    let p10 = rest (rest (rest (rest (rest p2)))) in
-    record { fits = now p1; inside = now p2; placed = all-placed _ _ _ _ _ (now p10) }
+    let p8 = rest (rest (rest (rest p2))) in
+    record { fits = now p1; inside = now p2; accepted = any-none _ _ (now p8); placed = all-placed _ _ _ _ _ (now (rest p8)) }
 
 returns-2 : tie.Need-returns-2
 unfolding createOutcome

@@ -18,8 +18,8 @@ change-table-requires : tie.Need-change-table-requires
 change-table-requires c κs =
     let p1 = passed _ (omega arith) (sym (c .before .before .free-refusal .ensures) ∙ c .before .if1 .left) in
     let p2 = rest p1 in
-    let p10 = rest (rest (rest (rest (rest p2)))) in
-    record { fits = now p1; inside = now p2; placed = any-none _ _ (now p10) }
+    let p8 = rest (rest (rest (rest p2))) in
+    record { fits = now p1; inside = now p2; accepted = any-none _ _ (now p8); placed = any-none _ _ (now (rest p8)) }
 
 returns-2 : tie.Need-returns-2
 unfolding freeOutcome

@@ -17,20 +17,22 @@ abbrev μ-loop : tie.MeasureT-loop
 loop-holds : tie.Need-loop-holds Inv-loop μ-loop
 loop-holds c = scan-start _ _
 
-add-entry-at : tie.Need-add-entry-at Inv-loop μ-loop
-add-entry-at c = omega (arith, c .before .before .before .before .before .pre .0 .holds)
+add-accepted-entry-at : tie.Need-add-accepted-entry-at Inv-loop μ-loop
+add-accepted-entry-at c = omega (arith, c .before .before .before .before .before .pre .0 .holds)
 
-entry-at-requires : tie.Need-entry-at-requires Inv-loop μ-loop
-entry-at-requires c κs = omega (arith, c .before .before .before .before .before .pre .0 .holds)
+accepted-entry-at-requires : tie.Need-accepted-entry-at-requires Inv-loop μ-loop
+accepted-entry-at-requires c κs =
+    let pre = c .before .before .before .before .before .pre .0 in
+    (omega (arith, pre .holds), pre .accepted (c .before .loop .i) (omega arith))
 
 meets-members-requires : tie.Need-meets-members-requires Inv-loop μ-loop
-meets-members-requires c κs = ((c .before .before .before .before .before .before .pre .0 .fits, rw (c .entry-at .ensures) (c .before .before .before .before .before .before .pre .0 .placed (c .before .before .loop .i) (omega arith))), c .before .before .before .before .before .before .pre .1)
+meets-members-requires c κs = ((c .before .before .before .before .before .before .pre .0 .fits, rw (c .accepted-entry-at .ensures) (c .before .before .before .before .before .before .pre .0 .placed (c .before .before .loop .i) (omega arith))), c .before .before .before .before .before .before .pre .1)
 
 returns : tie.Need-returns Inv-loop μ-loop
-returns c = scan-found _ _ (c .before .before .before .before .loop .i) (omega arith) (told (rw (c .before .before .entry-at .ensures) at (c .before .meets-members .ensures)) (c .if1 .taken))
+returns c = scan-found _ _ (c .before .before .before .before .loop .i) (omega arith) (told (rw (c .before .before .accepted-entry-at .ensures) at (c .before .meets-members .ensures)) (c .if1 .taken))
 
 loop-again : tie.Need-loop-again Inv-loop μ-loop
-loop-again c = scan-next _ _ _ (c .before .before .before .before .loop .inv) (omega arith) (told (rw (c .before .before .entry-at .ensures) at (c .before .meets-members .ensures)) (c .if1 .left))
+loop-again c = scan-next _ _ _ (c .before .before .before .before .loop .inv) (omega arith) (told (rw (c .before .before .accepted-entry-at .ensures) at (c .before .meets-members .ensures)) (c .if1 .left))
 
 returns-2 : tie.Need-returns-2 Inv-loop μ-loop
 returns-2 c = scan-end _ _ _ (c .before .loop .inv) (omega arith)
@@ -38,5 +40,5 @@ returns-2 c = scan-end _ _ _ (c .before .loop .inv) (omega arith)
 pub some-meets-members-spec : {M : Type 1} → statement M
 some-meets-members-spec =
     tie.close
-    (tie.spec Inv-loop μ-loop loop-holds add-entry-at entry-at-requires meets-members-requires returns
+    (tie.spec Inv-loop μ-loop loop-holds add-accepted-entry-at accepted-entry-at-requires meets-members-requires returns
     (λ c. omega arith) (λ c. omega arith) loop-again returns-2)

@@ -2,7 +2,7 @@
 use native.Mathlib.Omega.{arith}
 use Rattle.ledger.proofs.Judge.{decides, judged}
 use Rattle.validation.proofs.Clashes.{admitted-none}
-use Rattle.validation.proofs.Surveys.{new-unaccepted, new-misplaced, placed-all, new-rest, new-counted, uncounted, none-executes, new-none, finding-few}
+use Rattle.validation.proofs.Surveys.{new-unaccepted, new-misplaced, accepted-all, placed-all, new-rest, new-counted, uncounted, none-executes, new-none, finding-few}
 use borrow.Author.Needs.{needs}
 use Rattle.validation.proofs.refusal.new_entries_refusal.Statement.{statement}
 use Rattle.validation.proofs.refusal.new_entries_refusal.Tie as tie
@@ -17,8 +17,14 @@ returns-3 : tie.Need-returns-3
 returns-3 c = (decides (new-counted _ _ _ _ _ _ (c .before .before .before .before .before .survey-new .ensures .0) (c .before .before .if1 .left) (c .before .if2 .left) (c .if3 .taken)), λ z. let f : ⊥ = omega arith in absurd f)
 
 executed-refusal-requires : tie.Need-executed-refusal-requires
-executed-refusal-requires c κs = let gathered = c .before .before .before .before .before .before .before .before .survey-new .ensures .1 (omega (arith, c .before .before .if4 .taken)) in
-    ((record { fits = c .before .before .before .before .before .before .before .before .before .before .before .before .before .before .before .pre .0 .0; holds = c .before .before .before .before .before .before .before .before .before .before .before .before .before .before .before .pre .0 .1; placed = placed-all _ (c .before .before .before .before .before .before .before .before .before .before .before .before .before .before .before .args .golden .now) _ _ _ _ (c .before .before .before .before .before .before .before .before .survey-new .ensures .0) (c .before .before .before .before .before .if1 .left) (c .before .before .before .before .if2 .left) }, search needs), (gathered, uncounted _ (c .before .before .before .before .before .before .before .before .before .before .before .before .before .before .before .args .golden .now) _ _ _ _ (c .before .before .before .before .before .before .before .before .survey-new .ensures .0) (c .before .before .before .before .before .if1 .left) (c .before .before .before .before .if2 .left) (c .before .before .before .if3 .left)))
+executed-refusal-requires c κs =
+    let start = c .before .before .before .before .before .before .before .before .before .before .before .before .before .before .before in
+    let found = c .before .before .before .before .before .before .before .before .survey-new .ensures in
+    let golden = start .args .golden .now in
+    let gathered = found .1 (omega (arith, c .before .before .if4 .taken)) in
+    let accepted = c .before .before .before .before .before .if1 .left in
+    let fit = c .before .before .before .before .if2 .left in
+    ((record { fits = start .pre .0 .0; holds = start .pre .0 .1; accepted = accepted-all _ golden _ _ _ _ (found .0) accepted; placed = placed-all _ golden _ _ _ _ (found .0) accepted fit }, search needs), (gathered, uncounted _ golden _ _ _ _ (found .0) accepted fit (c .before .before .before .if3 .left)))
 
 returns-4 : tie.Need-returns-4
 returns-4 c = (decides (new-rest _ _ _ _ _ _ (c .before .before .before .before .before .before .before .before .before .survey-new .ensures .0) (c .before .before .before .before .before .before .if1 .left) (c .before .before .before .before .before .if2 .left) (judged _ (c .executed-refusal .ensures .0))), c .executed-refusal .ensures .1)
