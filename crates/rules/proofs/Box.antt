@@ -12,7 +12,7 @@ use Rattle.rules.specs.Guest.{Access, fetches, guestOutcome}
 use Rattle.rules.specs.Forget.{forgetOutcome}
 use Rattle.rules.specs.Steps.{Step, begins, creates, frees, maps, links, unmaps, switches, accesses, forgets, obey, Told, begun, afterAccepted, afterAnswer}
 use Rattle.rules.specs.Box.{untold, onBox, grantsWrite, Forgotten, at-once, then, Dutiful, Box-holds}
-use Rattle.rules.proofs.State.{recorded, MarkedAt, Running, Grows, Next}
+use Rattle.rules.proofs.State.{recorded, MarkedAt, Running, Grows, Next, next-blocks}
 use Rattle.rules.proofs.Starting.{begin-accepted, begin-unmarked, forgotten-unmarked}
 use Rattle.rules.proofs.Guests.{guest-next-unmarked, guest-fetched}
 use Rattle.rules.proofs.Lists.{Keeps, claimed}
@@ -57,7 +57,7 @@ module _ (golden : List ℕ) where
     refused same = (rw same at l, inl (rw same at w, rw same at k))
 
   -- the region's first block is the one told
-  base-told : {h h′ : Told} {s after : Store} → Running h s → Running h′ after → h′ .B ≡ h .B → base s ≡ base after
+  pub base-told : {h h′ : Told} {s after : Store} → Running h s → Running h′ after → h′ .B ≡ h .B → base s ≡ base after
   base-told r r′ same = sym (r .told-base) ∙ sym same ∙ r′ .told-base
 
   -- a call other than forget: a block that becomes writable is forgotten at once, and no other was both writable and marked
@@ -112,24 +112,25 @@ module _ (golden : List ℕ) where
   unfolding isForget
   spared d b l w k = false≢true (forget-first (d .owed b l w k))
 
+  pub access-runs : {h : Told} {s : Store} → Running h s → (a : Access) (addr : ℕ) → ((b : ℕ) → b < blocks s → 0 < recorded s writable b → MarkedAt s b → ⊥)
+      → Running (afterAnswer (onBox golden s (accesses a addr) .answer) h (accesses a addr)) (onBox golden s (accesses a addr) .after)
+  unfolding onBox obey afterAnswer afterAccepted
+  access-runs {h} {s} r a addr apart = silent (guestOutcome a s addr .answer) (guest-next-unmarked r a addr apart .0) where
+    silent : (answer : ℕ) → Running h (untold s (guestOutcome a s addr) .after) → Running (afterAnswer answer h (accesses a addr)) (untold s (guestOutcome a s addr) .after)
+    silent zero r = r
+    silent (suc k) r = r
+
   access-onward : {h : Told} {s : Store} (a : Access) (addr : ℕ) {steps : List Step} → Duty h s (accesses a addr ∷ steps)
       → Duty (afterAnswer (onBox golden s (accesses a addr) .answer) h (accesses a addr)) (onBox golden s (accesses a addr) .after) steps
   unfolding Dutiful onBox obey afterAnswer afterAccepted
   access-onward {h} {s} a addr {steps} d =
       let o = guestOutcome a s addr in
-      let n = next-at golden (d .same-golden) (d .runs) (accesses a addr) in
       record {
         same-golden = afterAnswer-golden (o .answer) h (accesses a addr) ∙ d .same-golden;
-        runs = silent (o .answer) (guest-next-unmarked (d .runs) a addr (spared d) .0);
+        runs = access-runs (d .runs) a addr (spared d);
         dutiful = d .dutiful .1;
-        owed = λ b l w k. absurd (spared d b (rw same at l) w k);
-      } where
-        same : blocks (guestOutcome a s addr .after) ≡ blocks s
-        same = ⊎-elim (λ (g : (guestOutcome a s addr .answer ≡ 0) × Grows (grantsWrite s (accesses a addr)) s (guestOutcome a s addr .after)). g .1 .same-blocks) (ap blocks) (next-at golden (d .same-golden) (d .runs) (accesses a addr) .grows)
-
-        silent : (answer : ℕ) → Running h (untold s (guestOutcome a s addr) .after) → Running (afterAnswer answer h (accesses a addr)) (untold s (guestOutcome a s addr) .after)
-        silent zero r = r
-        silent (suc k) r = r
+        owed = λ b l w k. absurd (spared d b (rw (next-blocks (next-at golden (d .same-golden) (d .runs) (accesses a addr))) at l) w k);
+      }
 
   onward : {h : Told} {s : Store} (step : Step) {steps : List Step} → Duty h s (step ∷ steps) → Duty (afterAnswer (onBox golden s step .answer) h step) (onBox golden s step .after) steps
   unfolding onBox obey isForget grantsWrite afterAccepted

@@ -10,16 +10,17 @@ use borrow.Author.Tests.{lt-ltb, not-false}
 use Rattle.words.specs.Bounded.{above, neqb, any, among}
 use Rattle.words.proofs.Bounded.{any-none, or-false-left, or-false-right, and-false-right, among-in}
 use Rattle.entries.specs.Entries.{Entry, Level, l2, isUnaccepted, isLink, coverFirst, coverBlocks}
+use Rattle.rules.specs.Refusals.{answerOf}
 use Rattle.rules.specs.Store.{Store, blocks, base, Counter, writable, executable, linked, someCounter, typeOf, counter, someBlock, someRegionBlock}
 use Rattle.rules.specs.Tables.{typeD, typeCode, tableBlocks, tableEntries, tableEntry, grants, gives, gain, astray}
 use Rattle.rules.specs.General.{added, someOverrun, tableOutside, otherType}
 use Rattle.rules.specs.Create.{someCount, unfitLink, unfitWrite, misplaced, clashes, unsigned, createRefusals, createAccepted, createOutcome}
 use Rattle.rules.specs.Steps.{creates, Told, afterAccepted, typed}
 use Rattle.rules.specs.Box.{grantsWrite}
-use Rattle.rules.proofs.Refusals.{Passed, front, now, rest}
+use Rattle.rules.proofs.Refusals.{Passed, front, passed, passed-front, now, rest}
 use Rattle.rules.proofs.Gains.{gives-within}
 use Rattle.rules.proofs.Consistent.{Suits, Sound}
-use Rattle.rules.proofs.State.{typeAt, signedAt, recorded, Running, equal, within, no-block, no-block-at, no-counter, types-told, type-told, Goes, known-signed, Next, next-13}
+use Rattle.rules.proofs.State.{typeAt, signedAt, recorded, Running, equal, within, no-block, no-block-at, no-counter, types-told, type-told, Goes, known-signed, Next, next-13, settle-accepted}
 use Rattle.rules.proofs.Changes.{counter-none, adds, admits}
 use Rattle.rules.proofs.Typing.{retold, typing-leaves, typing-replaces, typing-marks, stays, root-stays, other-table}
 
@@ -137,3 +138,13 @@ unfolding createOutcome afterAccepted
 create-next v p {h} {s} r =
     next-13 (creates v p) (createAccepted v s p) (createRefusals v (h .golden) s p) r (omega arith) (omega arith) (omega arith)
     (λ tests. created v p r (creatable v (h .golden) s p tests))
+
+-- an accepted create has the places of its entries in the region
+pub create-placed : (v : Level) (golden : List ℕ) (s : Store) (p : ℕ) → createOutcome v golden s p .answer ≡ 0
+    → (i : ℕ) → i < tableEntries v → astray (base s) (blocks s) (tableEntry v s p i) ≡ false
+unfolding createOutcome
+create-placed v golden s p zero-is i l =
+    let rs = createRefusals v golden s p in
+    let e = tableEntry v s p in
+    let tests = passed-front rs (passed rs (omega arith) (settle-accepted s (createAccepted v s p) (answerOf rs) zero-is .0)) in
+    place v s p (e i) (any-none (λ i. misplaced v s p (e i)) (tableEntries v) (creatable v golden s p tests .placed) i l) .inside

@@ -20,6 +20,7 @@ pub mod Lists
 pub mod Demand3
 pub mod Box
 pub mod Passing
+pub mod Duties
 pub mod Accessible
 pub mod Removals
 pub mod InTurn

@@ -13,6 +13,7 @@ use Rattle.entries.specs.Rights as rights
 use Rattle.entries.specs.Rights.{allows, unlawfulRights}
 use Rattle.entries.proofs.Covers.{cover-low, cover-high}
 use Rattle.entries.proofs.RoundTrip.{Grantable, none, read, readWrite, readExecute, a-section, a-page, Encodable, singly, in-run}
+use Rattle.rules.specs.Refusals.{answerOf}
 use Rattle.rules.specs.Store.{Store, blocks, base, recordWord, Counter, writable, executable, linked, counterWord, counter, typeOf, outside, someBlock}
 use Rattle.rules.specs.Signature.{unknown}
 use Rattle.rules.specs.Tables.{typeD, typeCode, Form, sections, pages, larges, level, targetBlocks, mappingWords, mapping, wordIndex, grants, gives, gain, astray}
@@ -20,10 +21,10 @@ use Rattle.rules.specs.General.{tableOutside, misaligned, beyondTable, o
 use Rattle.rules.specs.Map.{unfitTarget, clashingTarget, unsignedTarget, mapRefusals, mapAccepted, mapOutcome}
 use Rattle.rules.specs.Steps.{maps, Told, afterAccepted}
 use Rattle.rules.specs.Box.{grantsWrite}
-use Rattle.rules.proofs.Refusals.{Passed, front, now, rest}
+use Rattle.rules.proofs.Refusals.{Passed, front, passed, passed-front, now, rest}
 use Rattle.rules.proofs.Gains.{gives-within, gain-none, gain-found}
 use Rattle.rules.proofs.Consistent.{Suits, Sound}
-use Rattle.rules.proofs.State.{Fit, fits, Running, equal, within, no-block-at, type-told, known-signed, Goes, Next, next-13}
+use Rattle.rules.proofs.State.{Fit, fits, Running, equal, within, no-block-at, type-told, known-signed, Goes, Next, next-13, settle-accepted}
 use Rattle.rules.proofs.Changes.{counter-none, adds, admits}
 use Rattle.rules.proofs.Edits.{Apart, as-run, as-singles, slot, words-in-block, Harmless, enters}
 
@@ -278,3 +279,12 @@ unfolding mapOutcome afterAccepted
 map-next f p i t q {h} {s} r =
     next-13 (maps f p i t q) (mapAccepted f s p i t q) (mapRefusals f (h .golden) s p i t q) r (omega arith) (omega arith) (omega arith)
     (λ tests. mapped f p i t q r (mappable f (h .golden) s p i t q tests))
+
+-- an accepted map has the places of its entries in the region
+pub map-placed : (f : Form) (golden : List ℕ) (s : Store) (p i t q : ℕ) → mapOutcome f golden s p i t q .answer ≡ 0
+    → (k : ℕ) → k < mappingWords f → astray (base s) (blocks s) (mapping f t q k) ≡ false
+unfolding mapOutcome
+map-placed f golden s p i t q zero-is =
+    let rs = mapRefusals f golden s p i t q in
+    let can = mappable f golden s p i t q (passed-front rs (passed rs (omega arith) (settle-accepted s (mapAccepted f s p i t q) (answerOf rs) zero-is .0))) in
+    target-inside f golden s p i t q (can .fits-target) (can .target-aligned)

@@ -1,6 +1,6 @@
 -- What passes the tests that many calls share: a running state is lent as the rules want it, and its ledger has the types told. A switch and
 -- a guest's access have no others.
-use mathlib.Core.Bool.{Bool, true, false, not}
+use mathlib.Core.Bool.{Bool, true, false, not, and-false}
 use mathlib.Core.List.{List, [], _∷_, _++_}
 use mathlib.Core.Option.{some}
 use mathlib.Core.Path.{_≡_, refl, sym, _∙_, ap}
@@ -9,7 +9,7 @@ use native.Mathlib.Nat.{add-zero}
 use native.Mathlib.Omega.{arith}
 use lib.ListN.{length}
 use borrow.Author.Tests.{le-ltb}
-use Rattle.words.specs.Bounded.{any, neqb}
+use Rattle.words.specs.Bounded.{any, neqb, above}
 use Rattle.words.proofs.Bounded.{any-avoids, same}
 use Rattle.entries.specs.Entries.{Level, l1}
 use Rattle.entries.specs.Rights.{allows}
@@ -18,6 +18,7 @@ use Rattle.rules.specs.Store.{blockBytes, leastBlocks, mostBlocks, baseA
 use Rattle.rules.specs.Outcomes.{Outcome, Accepted, leaving, settle, callOutcome}
 use Rattle.rules.specs.Tables.{typeCode, tableBlocks}
 use Rattle.rules.specs.General.{otherType}
+use Rattle.rules.specs.Forget.{forgetOutcome, strayBlocks}
 use Rattle.rules.specs.Switch.{switchRefusals, switchAfter, switchOutcome}
 use Rattle.rules.specs.Guest.{ends, walk, Access, needed, walkRefusals, noActiveTable, activeWalk, guestRefusals, guestAccepted, guestOutcome}
 use Rattle.rules.specs.Steps.{Step, switches, obey, Told, afterAccepted, afterAnswer}
@@ -113,3 +114,10 @@ module _ {h : Told} {s : Store} (r : Running h s) where
       let unbarred : noActiveTable s ≡ false = rw (is, inside (base s) (blocks s) table (tableBlocks l1) (root .low) (root .high), same (table % tableBlocks l1) 0 (root .aligned)) refl in
       let at : activeWalk s addr ≡ ends v p q = rw (is, ← r .told-base) walked in
       settle-answer (answerOf (guestRefusals a s addr)) s (guestAccepted a s addr) ∙ rw at (accepted (step no-misfit (step unbarred (step (ap not allowed) done))))
+
+-- a forget of the whole region is accepted
+pub forget-whole : {h : Told} {s : Store} → Running h s → forgetOutcome s (base s) (blocks s) .answer ≡ 0
+unfolding forgetOutcome strayBlocks
+forget-whole {h} {s} r =
+    settle-answer _ s _
+    ∙ accepted (step (no-misfit r) (step (rw (inside (base s) (blocks s) (base s) (blocks s) (omega arith) (omega arith)) (and-false (above (blocks s) 0))) done))

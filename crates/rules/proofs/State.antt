@@ -218,6 +218,9 @@ pub record Next (h : Told) (s : Store) (step : Step) (o : Outcome) : Type 0 wher
   pub runs : Running (afterAnswer (o .answer) h step) (o .after)
   pub grows : ((o .answer ≡ 0) × Grows (grantsWrite s step) s (o .after)) ⊎ (o .after ≡ s)
 
+pub next-blocks : {h : Told} {s : Store} {step : Step} {o : Outcome} → Next h s step o → blocks (o .after) ≡ blocks s
+next-blocks {h} {s} {step} {o} n = ⊎-elim (λ (g : (o .answer ≡ 0) × Grows (grantsWrite s step) s (o .after)). g .1 .same-blocks) (ap blocks) (n .grows)
+
 -- an accepted call leaves and tells what it says, a refused one nothing
 pub next : {h : Told} {s : Store} (step : Step) (new : Accepted) (k : ℕ) → Running h s → k ≢ 13 → k ≢ 24 → (k ≡ 0 → Goes (grantsWrite s step) (afterAccepted h step) s (new .store))
     → Next h s step (settle k s new)

@@ -4,7 +4,7 @@ use mathlib.Core.List.{List, [], _∷_}
 use mathlib.Core.Path.{_≡_}
 use Prim.Native.Nat.{ℕ, _+_, _<_, _≤_}
 use Rattle.words.specs.Bounded.{above}
-use Rattle.rules.specs.Store.{Store, writable}
+use Rattle.rules.specs.Store.{Store, blocks, base, writable}
 use Rattle.rules.specs.Outcomes.{Outcome}
 use Rattle.rules.specs.Tables.{tableEntries, tableEntry, mappingWords, mapping, gain}
 use Rattle.rules.specs.Begin.{beginOutcome}
@@ -57,3 +57,16 @@ abbrev pub Box-holds : Type 0
 Box-holds =
     (golden : List ℕ) (start : Store) (B : ℕ) → beginOutcome start B .answer ≡ 0
     → (steps : List Step) → Dutiful golden (beginOutcome start B .after) steps → Claim (onBox golden) golden B (beginOutcome start B .after) steps
+
+-- box 5: the steps of a list from store s on, each followed by a forget of the whole region
+unfoldable pub careful : List ℕ → Store → List Step → List Step
+careful golden s [] = []
+careful golden s (step ∷ steps) =
+    let after = onBox golden s step .after in
+    step ∷ forgets (base after) (blocks after) ∷ careful golden (forgetOutcome after (base after) (blocks after) .after) steps
+
+-- box 5: the claim that the duty is done in such a list, whatever the steps
+abbrev pub Duty-can-be-done : Type 0
+Duty-can-be-done =
+    (golden : List ℕ) (start : Store) (B : ℕ) → beginOutcome start B .answer ≡ 0
+    → (steps : List Step) → let s = beginOutcome start B .after in Dutiful golden s (careful golden s steps)
