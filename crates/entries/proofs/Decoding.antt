@@ -13,7 +13,8 @@ use Rattle.words.specs.Words.{bits, word}
 use Rattle.words.proofs.Bounded.{and-true, and-true-left, any-none, any-avoids, any-hit, any-same, differ, same, below-or-above}
 use Rattle.words.proofs.Fields.{bits-low}
 use Rattle.entries.specs.Rights.{acceptedAP, mayRead, mayWrite, mayExecute, rightsOf}
-use Rattle.entries.specs.Entries.{Entry, fault, unaccepted, link, section, page, large, Level, l1, l2, sectionAP, sectionXN, pageAP, pageXN, largeXN, isLinkForm, isSectionForm, isPageForm, isLargeForm, l1Entry, l2Entry, runWords, runWord, isRun, entryAt, hasPageBit, codeOf, wordCode, pageCode, isFault, isUnaccepted, isLink, isSection, isPage, isLarge, sectionBlocks, largeBlocks}
+use Rattle.entries.specs.Entries.{Entry, fault, unaccepted, link, section, page, large, Level, l1, l2, sectionAP, sectionXN, pageAP, pageXN, largeXN, isLinkForm, isSectionForm, isPageForm, isLargeForm, l1Entry, l2Entry, runWords, runWord, isRun, entryAt, codeOf, wordCode, pageCode, isFault, isUnaccepted, isLink, isSection, isPage, isLarge, sectionBlocks, largeBlocks}
+use Rattle.entries.specs.Needs.{hasPageBit}
 use Rattle.entries.proofs.Covers.{standsAlone}
 
 -- Words of level 2

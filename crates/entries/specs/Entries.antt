@@ -74,11 +74,6 @@ isSectionForm w = eqb (bits w 0 2) 0b10 && sectionZeros w && acceptedAP (section
 unfoldable pub isPageForm : ℕ → Bool
 isPageForm w = eqb (bits w 1 1) 1 && acceptedAP (pageAP w)
 
--- entries 8: bit 1, which at level 2 tells pages from all else that is accepted
-abbrev pub hasPageBit : Level → ℕ → Bool
-hasPageBit l1 w = false
-hasPageBit l2 w = eqb (bits w 1 1) 1
-
 -- entries 20, entries 9: the word has the form of a large page
 unfoldable pub isLargeForm : ℕ → Bool
 isLargeForm w = eqb (bits w 0 2) 0b01 && eqb (bits w 6 3) 0 && acceptedAP (pageAP w)

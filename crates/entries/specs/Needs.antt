@@ -1,9 +1,12 @@
--- What functions require: a word that lies in the memory, a place that has an address (RULES: entries, calls).
+-- What functions owe each other: a word that lies in the memory, a place that has an address, a bit (RULES: entries, calls).
+use mathlib.Core.Bool.{Bool, false}
 use mathlib.Core.List.{List}
 use mathlib.Core.Path.{_≡_}
 use Prim.Native.Nat.{ℕ, _+_, _*_, _/_, _%_, _^_, _≤_, _<_}
+use lib.Dec.{eqb}
 use lib.ListN.{length}
-use Rattle.entries.specs.Entries.{sectionBlocks, largeBlocks, runWords}
+use Rattle.words.specs.Words.{bits}
+use Rattle.entries.specs.Entries.{Level, l1, l2, sectionBlocks, largeBlocks, runWords}
 
 -- calls 1, memory 4: word j lies in the lent memory
 abbrev pub HoldsWord : List ℕ → ℕ → Type 0
@@ -28,3 +31,8 @@ IsLargeStart b = (b < 2 ^ 20) × (b % largeBlocks ≡ 0)
 -- entries 6: p can be the address of an L2 table / 1,024, which has 22 bits
 abbrev pub IsTablePlace : ℕ → Type 0
 IsTablePlace p = p < 2 ^ 22
+
+-- entries 8: bit 1, which at level 2 tells pages from all else that is accepted
+abbrev pub hasPageBit : Level → ℕ → Bool
+hasPageBit l1 w = false
+hasPageBit l2 w = eqb (bits w 1 1) 1

@@ -13,9 +13,9 @@ ghost use mathlib.Core.Logic.{_≢_};
 ghost use Prim.Native.Nat.{_+_, _*_, _%_};
 ghost use Rattle.words.specs.Words.{bits, word};
 ghost use Rattle.entries.specs.Rights.{rightsOf};
-ghost use Rattle.entries.specs.Entries.{entryAt, hasPageBit, isLargeForm, isLinkForm, isPageForm, isRun, isSectionForm, isUnaccepted, l1, l1Entry, l2, largeBlocks, largeXN, pageAP, pageXN, runWords, sectionAP, sectionBlocks, sectionXN, sectionZeros, wordCode};
+ghost use Rattle.entries.specs.Entries.{entryAt, isLargeForm, isLinkForm, isPageForm, isRun, isSectionForm, isUnaccepted, l1, l1Entry, l2, largeBlocks, largeXN, pageAP, pageXN, runWords, sectionAP, sectionBlocks, sectionXN, sectionZeros, wordCode};
 ghost use Rattle.entries.specs.Meaning.{levelOf, meaning};
-ghost use Rattle.entries.specs.Needs.{HoldsRun, HoldsWord};
+ghost use Rattle.entries.specs.Needs.{HoldsRun, HoldsWord, hasPageBit};
 
 const FAULT_FORM: u32 = 0b00;
 
@@ -142,6 +142,13 @@ fn is_large_form(w: u32) -> bool
     page_ap(w) != UNACCEPTED_AP
 }
 
+// The rights of a word with the form of a large page (entries 20).
+fn large_rights(w: u32) -> u32
+    ensures { λ r. ⌜ r ≡ rightsOf (pageAP w) (largeXN w) ⌝ }
+{
+    rights_of(page_ap(w), words::bits(w, 15, 1))
+}
+
 // The page rights of a word with the low bits of a large page.
 fn large_code(w: u32) -> u8
     requires { ⌜ bits w 0 2 ≡ 0b01 ⌝ }
@@ -150,7 +157,7 @@ fn large_code(w: u32) -> u8
     if !is_large_form(w) {
         return UNACCEPTED_CODE;
     }
-    LEAST_ACCEPTED + rights_of(page_ap(w), words::bits(w, 15, 1)) as u8
+    LEAST_ACCEPTED + large_rights(w) as u8
 }
 
 // The page rights of an L2 word (entries 13). The table has those of pages; for low bits 01 it has 6, since bits 9..0 do not decide there.
@@ -185,7 +192,7 @@ fn is_run(mem: &[u8], j: usize, w: u32) -> bool
 fn large_mapping(j: usize, w: u32) -> Mapping
     ensures { λ r. ⌜ (r .first ≡ largeBlocks * bits w 16 16 + j % runWords) × (r .rights ≡ rightsOf (pageAP w) (largeXN w)) ⌝ }
 {
-    let rights = rights_of(page_ap(w), words::bits(w, 15, 1));
+    let rights = large_rights(w);
     Mapping {
         first: LARGE_BLOCKS * words::bits(w, 16, 16) + (j % RUN_WORDS) as u32,
         rights,
@@ -272,7 +279,8 @@ fn accepted_l1_entry(w: u32) -> Entry
     Entry::Section(section_mapping(w))
 }
 
-// Word j of the memory, which is w, read as an entry of an L2 table. It is accepted, and no fault: bit 1 tells a page from a large page.
+// Word j of the memory, which is w, read as an entry of an L2 table. It is accepted, and no fault: bit 1 tells a page from a large page, and nothing else of
+// the memory is read.
 fn accepted_l2_entry(mem: &[u8], j: usize, w: u32) -> Entry
     requires { ⌜ w ≡ word (now mem) (4 * j) ⌝ }
     requires { ⌜ (bits w 0 2 ≢ 0b00) × (isUnaccepted (entryAt l2 (now mem) j) ≡ false) ⌝ }
@@ -284,7 +292,8 @@ fn accepted_l2_entry(mem: &[u8], j: usize, w: u32) -> Entry
     Entry::Large(large_mapping(j, w))
 }
 
-// Word j of the memory, which is w, read as an entry of a table of this level. It is accepted: its zeros, its AP and its run are not looked at again.
+// Word j of the memory, which is w, read as an entry of a table of this level. It is accepted: zeros, an AP of 100 and the run are not
+// tested again, and nothing else of the memory is read.
 fn accepted_entry_of(level: Level, mem: &[u8], j: usize, w: u32) -> Entry
     requires { ⌜ w ≡ word (now mem) (4 * j) ⌝ }
     requires { ⌜ isUnaccepted (entryAt (levelOf level) (now mem) j) ≡ false ⌝ }
@@ -308,7 +317,7 @@ pub fn accepted_entry(level: Level, mem: &[u8], j: usize) -> Entry
     accepted_entry_of(level, mem, j, words::word(mem, WORD_BYTES * j))
 }
 
-// An accepted word of this level is a page.
+// At level 2, bit 1: a word that is accepted is then a page (entries 8).
 fn has_page_bit(level: Level, w: u32) -> bool
     ensures { λ r. ⌜ r ≡ hasPageBit (levelOf level) w ⌝ }
 {

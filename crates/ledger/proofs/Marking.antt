@@ -1,22 +1,21 @@
 -- Laws of marks: marking or clearing block after block, and the marks of adjacent blocks to which an entry grants execute.
-use mathlib.Core.Bool.{Bool, true, false, cond, not, _&&_}
+use mathlib.Core.Bool.{Bool, true, false, not, _&&_}
 use mathlib.Core.List.{List}
 use mathlib.Core.Path.{_≡_, refl, sym, _∙_, ap}
-use Prim.Native.Nat.{ℕ, zero, suc, _+_, _-_, _*_, _<_, _≤_}
+use Prim.Native.Nat.{ℕ, zero, suc, _+_, _-_, _<_, _≤_}
 use native.Mathlib.Nat.{add-assoc, add-zero}
 use native.Mathlib.Numerals.{add-one}
 use native.Mathlib.Omega.{arith}
 use lib.Dec.{eqb, leb}
-use lib.ListN.{length}
 use borrow.Author.Tests.{le-leb, lt-leb, leb-true}
 use Rattle.words.specs.Bounded.{above, among, sum, num, count}
-use Rattle.words.proofs.Bounded.{false-unless, among-in, among-out, among-within, both-ways, window-or-outside}
+use Rattle.words.proofs.Bounded.{among-in, among-out, among-within, both-ways}
 use Rattle.words.proofs.Sums.{sum-same, sum-window, count-most, count-none}
 use Rattle.entries.specs.Entries.{Entry}
 use Rattle.rules.specs.Store.{Store, blocks, base, recordWord, putRecordWord, executable, markWord, markValue, marked, clearMark, clearMarks, markBlocks, misfit}
 use Rattle.rules.specs.Tables.{grants, executed}
 use Rattle.rules.specs.General.{hashedBlocks}
-use Rattle.rules.proofs.State.{fits, within}
+use Rattle.rules.proofs.State.{within}
 use Rattle.ledger.specs.Counters.{Spreads}
 use Rattle.ledger.specs.Needs.{recordOf, GrantsInside}
 

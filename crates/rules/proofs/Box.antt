@@ -3,14 +3,14 @@
 use mathlib.Core.Bool.{Bool, true, false, false≢true}
 use mathlib.Core.List.{List, [], _∷_}
 use mathlib.Core.Logic.{_⊎_, inl, inr, ⊎-elim}
-use mathlib.Core.Path.{_≡_, refl, sym, _∙_, ap, subst}
-use Prim.Native.Nat.{ℕ, zero, suc, _+_, _-_, _<_, _≤_}
+use mathlib.Core.Path.{_≡_, refl, sym, _∙_, subst}
+use Prim.Native.Nat.{ℕ, zero, suc, _+_, _-_, _<_}
 use native.Mathlib.Omega.{arith}
 use Rattle.rules.specs.Store.{Store, blocks, base, writable, executable}
 use Rattle.rules.specs.Outcomes.{Outcome}
-use Rattle.rules.specs.Guest.{Access, fetches, guestOutcome}
+use Rattle.rules.specs.Guest.{Access, guestOutcome}
 use Rattle.rules.specs.Forget.{forgetOutcome}
-use Rattle.rules.specs.Steps.{Step, begins, creates, frees, maps, links, unmaps, switches, accesses, forgets, obey, Told, begun, afterAccepted, afterAnswer}
+use Rattle.rules.specs.Steps.{Step, begins, creates, frees, maps, links, unmaps, switches, accesses, forgets, obey, Told, afterAccepted, afterAnswer}
 use Rattle.rules.specs.Box.{untold, onBox, grantsWrite, Forgotten, at-once, then, Dutiful, Box-holds}
 use Rattle.rules.proofs.State.{recorded, MarkedAt, Running, Grows, Next, next-blocks}
 use Rattle.rules.proofs.Starting.{begin-accepted, begin-unmarked, forgotten-unmarked}
@@ -20,11 +20,11 @@ use Rattle.rules.proofs.Demand3.{next-at, afterAnswer-golden}
 
 module _ (golden : List ℕ) where
   -- the state from which the rest of a list is run: each block that is writable and marked is forgotten at once
-  record Duty (h : Told) (s : Store) (steps : List Step) : Type 0 where
-    same-golden : h .golden ≡ golden
-    runs : Running h s
-    dutiful : Dutiful golden s steps
-    owed : (b : ℕ) → b < blocks s → 0 < recorded s writable b → MarkedAt s b → Forgotten (base s + b) s steps
+  pub record Duty (h : Told) (s : Store) (steps : List Step) : Type 0 where
+    pub same-golden : h .golden ≡ golden
+    pub runs : Running h s
+    pub dutiful : Dutiful golden s steps
+    pub owed : (b : ℕ) → b < blocks s → 0 < recorded s writable b → MarkedAt s b → Forgotten (base s + b) s steps
 
   isForget : Step → Bool
   isForget (begins B) = false
@@ -37,9 +37,13 @@ module _ (golden : List ℕ) where
   isForget (accesses a addr) = false
   isForget (forgets p m) = true
 
-  -- no block is forgotten by a list that begins with another step
-  forget-first : {q : ℕ} {s : Store} {step : Step} {steps : List Step} → Forgotten q s (step ∷ steps) → isForget step ≡ true
-  unfolding isForget
+  forgetsFirst : List Step → Bool
+  forgetsFirst [] = false
+  forgetsFirst (step ∷ steps) = isForget step
+
+  -- no block is forgotten by a list that begins with no forget
+  forget-first : {q : ℕ} {s : Store} {steps : List Step} → Forgotten q s steps → forgetsFirst steps ≡ true
+  unfolding isForget forgetsFirst
   forget-first (at-once accepted low high) = refl
   forget-first (then more) = refl
 
@@ -64,7 +68,7 @@ module _ (golden : List ℕ) where
   call-onward : {h : Told} {s : Store} (step : Step) {steps : List Step} → Duty h s (step ∷ steps) → onBox golden s step ≡ obey golden s step → isForget step ≡ false
       → ((q : ℕ) → grantsWrite s step q ≡ true → afterAccepted h step .B ≡ h .B)
       → Duty (afterAnswer (obey golden s step .answer) h step) (obey golden s step .after) steps
-  unfolding Dutiful afterAnswer
+  unfolding Dutiful afterAnswer forgetsFirst
   call-onward {h} {s} step {steps} d as-call no-forget keeps-base =
       let o = obey golden s step in
       let n = next-at golden (d .same-golden) (d .runs) step in
@@ -109,16 +113,8 @@ module _ (golden : List ℕ) where
 
   -- the processor's own access: no block that it can write is marked
   spared : {h : Told} {s : Store} {a : Access} {addr : ℕ} {steps : List Step} → Duty h s (accesses a addr ∷ steps) → (b : ℕ) → b < blocks s → 0 < recorded s writable b → MarkedAt s b → ⊥
-  unfolding isForget
+  unfolding isForget forgetsFirst
   spared d b l w k = false≢true (forget-first (d .owed b l w k))
-
-  pub access-runs : {h : Told} {s : Store} → Running h s → (a : Access) (addr : ℕ) → ((b : ℕ) → b < blocks s → 0 < recorded s writable b → MarkedAt s b → ⊥)
-      → Running (afterAnswer (onBox golden s (accesses a addr) .answer) h (accesses a addr)) (onBox golden s (accesses a addr) .after)
-  unfolding onBox obey afterAnswer afterAccepted
-  access-runs {h} {s} r a addr apart = silent (guestOutcome a s addr .answer) (guest-next-unmarked r a addr apart .0) where
-    silent : (answer : ℕ) → Running h (untold s (guestOutcome a s addr) .after) → Running (afterAnswer answer h (accesses a addr)) (untold s (guestOutcome a s addr) .after)
-    silent zero r = r
-    silent (suc k) r = r
 
   access-onward : {h : Told} {s : Store} (a : Access) (addr : ℕ) {steps : List Step} → Duty h s (accesses a addr ∷ steps)
       → Duty (afterAnswer (onBox golden s (accesses a addr) .answer) h (accesses a addr)) (onBox golden s (accesses a addr) .after) steps
@@ -127,12 +123,15 @@ module _ (golden : List ℕ) where
       let o = guestOutcome a s addr in
       record {
         same-golden = afterAnswer-golden (o .answer) h (accesses a addr) ∙ d .same-golden;
-        runs = access-runs (d .runs) a addr (spared d);
+        runs = silent (o .answer) (guest-next-unmarked (d .runs) a addr (spared d) .0);
         dutiful = d .dutiful .1;
         owed = λ b l w k. absurd (spared d b (rw (next-blocks (next-at golden (d .same-golden) (d .runs) (accesses a addr))) at l) w k);
-      }
+      } where
+        silent : (answer : ℕ) → Running h (untold s (guestOutcome a s addr) .after) → Running (afterAnswer answer h (accesses a addr)) (untold s (guestOutcome a s addr) .after)
+        silent zero r = r
+        silent (suc k) r = r
 
-  onward : {h : Told} {s : Store} (step : Step) {steps : List Step} → Duty h s (step ∷ steps) → Duty (afterAnswer (onBox golden s step .answer) h step) (onBox golden s step .after) steps
+  pub onward : {h : Told} {s : Store} (step : Step) {steps : List Step} → Duty h s (step ∷ steps) → Duty (afterAnswer (onBox golden s step .answer) h step) (onBox golden s step .after) steps
   unfolding onBox obey isForget grantsWrite afterAccepted
   onward (begins B) d = call-onward (begins B) d refl refl (λ q g. absurd (false≢true g))
   onward (creates v p) d = call-onward (creates v p) d refl refl (λ q g. refl)
@@ -167,6 +166,11 @@ module _ (golden : List ℕ) where
         guarded = λ {h} {s} {a} {addr} {steps} d. guest-next-unmarked (d .runs) a addr (spared d) .1;
         fetched = λ {h} {s} {addr} {steps} d zero-is. guest-fetched (d .runs) addr zero-is;
       }
+
+  -- at the end of a list nothing is owed: no block is both writable and marked, and a list can begin in this state whose duty is done
+  pub rest : {h : Told} {s : Store} → Duty h s [] → (steps : List Step) → Dutiful golden s steps → Duty h s steps
+  unfolding forgetsFirst
+  rest d steps dutiful = record { same-golden = d .same-golden; runs = d .runs; dutiful = dutiful; owed = λ b l w k. absurd (false≢true (forget-first (d .owed b l w k))) }
 
 -- box 3: whatever an accepted begin was lent, and whatever the steps behind it
 pub box : Box-holds

@@ -12,7 +12,7 @@ use Rattle.words.specs.Bounded.{above}
 use Rattle.words.specs.Words.{word}
 use Rattle.words.proofs.Bounded.{any-avoids, below-or-above}
 use Rattle.entries.specs.Entries.{Entry}
-use Rattle.rules.specs.Store.{blockBytes, blockWords, ledgerHeadBytes, ledgerRecordBytes, basePlace, activePlace, Store, blocks, base, active, recordWord, typeWord, Counter, writable, executable, linked, counterWord, markWord, someCounter, counter, markBlocks, someBlock}
+use Rattle.rules.specs.Store.{blockBytes, blockWords, ledgerHeadBytes, ledgerRecordBytes, basePlace, activePlace, Store, blocks, base, active, recordWord, typeWord, Counter, writable, executable, linked, counterWord, markWord, someCounter, counter, someBlock}
 use Rattle.rules.specs.Tables.{gain, executed}
 use Rattle.rules.specs.General.{Change, added, removed, endValue, overruns, someOverrun, recounted, admitting}
 use Rattle.rules.specs.Create.{clashes}

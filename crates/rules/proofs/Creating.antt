@@ -1,12 +1,12 @@
 -- Create runs on: the new table's entries are accepted, lead to blocks of the right types, clash neither with the old counters nor with each
 -- other, and what they let execute is signed; the blocks themselves had no counts.
-use mathlib.Core.Bool.{Bool, true, false, not, _&&_, _||_, false≢true}
-use mathlib.Core.Logic.{inl, ⊎-elim}
+use mathlib.Core.Bool.{Bool, true, false, _&&_, _||_, false≢true}
+use mathlib.Core.Logic.{inl}
 use mathlib.Core.Path.{_≡_, refl, sym, _∙_}
 use mathlib.Core.List.{List}
 use Prim.Native.Nat.{ℕ, _+_, _-_, _<_, _≤_}
 use native.Mathlib.Omega.{arith}
-use borrow.Author.Tests.{lt-ltb, not-false}
+use borrow.Author.Tests.{lt-ltb}
 use Rattle.words.specs.Bounded.{above, neqb, any, among}
 use Rattle.words.proofs.Bounded.{any-none, or-false-left, or-false-right, and-false-right, among-in}
 use Rattle.entries.specs.Entries.{Entry, Level, l2, isUnaccepted, isLink, coverFirst, coverBlocks}

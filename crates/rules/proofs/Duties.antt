@@ -1,26 +1,27 @@
--- The duty of the box can be done in every list: by a forget of the whole region behind each step.
-use mathlib.Core.Bool.{true, false, false≢true}
+-- The duty of the box can be done in every list: by a forget of the whole region behind each step that grants write.
+use mathlib.Core.Bool.{Bool, true, false, cond, false≢true}
 use mathlib.Core.List.{List, [], _∷_}
-use mathlib.Core.Path.{_≡_, refl, sym, _∙_}
-use Prim.Native.Nat.{ℕ, _+_, _<_, _≤_}
+use mathlib.Core.Path.{_≡_, refl, sym, _∙_, ap}
+use Prim.Native.Nat.{ℕ, _+_, _-_, _<_, _≤_}
 use native.Mathlib.Omega.{arith}
-use borrow.Author.Tests.{ltb-true}
-use Rattle.words.specs.Bounded.{above}
+use borrow.Author.Tests.{ltb-true, eq-eqb}
+use Rattle.words.specs.Bounded.{above, any}
+use Rattle.words.proofs.Bounded.{any-hit}
 use Rattle.entries.specs.Entries.{Entry}
 use Rattle.rules.specs.Store.{Store, blocks, base, writable}
 use Rattle.rules.specs.Tables.{tableEntries, tableEntry, mappingWords, mapping, gain, astray}
 use Rattle.rules.specs.Forget.{forgetOutcome}
 use Rattle.rules.specs.Steps.{Step, begins, creates, frees, maps, links, unmaps, switches, accesses, forgets, obey, Told, afterAccepted, afterAnswer}
-use Rattle.rules.specs.Box.{onBox, grantsWrite, at-once, Dutiful, careful, Duty-can-be-done}
+use Rattle.rules.specs.Box.{onBox, grantsWrite, Forgotten, at-once, Dutiful, owesForget, careful, Duty-can-be-done}
 use Rattle.rules.proofs.Gains.{grants-place, gives-within, gain-found}
-use Rattle.rules.proofs.State.{MarkedAt, Running, next-blocks}
+use Rattle.rules.proofs.State.{Running, next-blocks}
 use Rattle.rules.proofs.Walk.{cover-within}
-use Rattle.rules.proofs.Starting.{begin-accepted, begin-unmarked, forgotten-unmarked}
+use Rattle.rules.proofs.Starting.{begin-accepted, begin-unmarked}
 use Rattle.rules.proofs.Creating.{create-placed}
 use Rattle.rules.proofs.Mapping.{map-placed}
-use Rattle.rules.proofs.Demand3.{next-at, afterAnswer-golden}
+use Rattle.rules.proofs.Demand3.{next-at}
 use Rattle.rules.proofs.Passing.{forget-whole}
-use Rattle.rules.proofs.Box.{base-told, access-runs}
+use Rattle.rules.proofs.Box.{Duty, base-told, onward, rest}
 
 -- entries whose places lie in the region give write to blocks of the region alone
 entries-within : (s : Store) (m : ℕ) (e : ℕ → Entry) → ((i : ℕ) → i < m → astray (base s) (blocks s) (e i) ≡ false)
@@ -32,76 +33,81 @@ entries-within s m e placed q g =
     (omega arith, omega arith)
 
 module _ (golden : List ℕ) where
-  -- the state in which no block is marked
-  record Unmarked (h : Told) (s : Store) : Type 0 where
-    same-golden : h .golden ≡ golden
-    runs : Running h s
-    none : (b : ℕ) → b < blocks s → MarkedAt s b → ⊥
+  -- no block is both writable and marked
+  abbrev Apart : Told → Store → Type 0
+  Apart h s = Duty golden h s []
 
-  abbrev toldAfter : Told → Store → Step → Told
-  toldAfter h s step = afterAnswer (onBox golden s step .answer) h step
+  -- a forget of the whole region is accepted, and names physical block q
+  abbrev Names : Store → ℕ → Type 0
+  Names s q = (forgetOutcome s (base s) (blocks s) .answer ≡ 0) × (base s ≤ q) × (q < base s + blocks s)
 
-  step-runs : {h : Told} {s : Store} → Unmarked h s → (step : Step) → Running (toldAfter h s step) (onBox golden s step .after)
-  unfolding onBox
-  step-runs u (begins B) = next-at golden (u .same-golden) (u .runs) (begins B) .runs
-  step-runs u (creates v p) = next-at golden (u .same-golden) (u .runs) (creates v p) .runs
-  step-runs u (frees v p) = next-at golden (u .same-golden) (u .runs) (frees v p) .runs
-  step-runs u (maps f p i t r) = next-at golden (u .same-golden) (u .runs) (maps f p i t r) .runs
-  step-runs u (links p i t j) = next-at golden (u .same-golden) (u .runs) (links p i t j) .runs
-  step-runs u (unmaps f p i) = next-at golden (u .same-golden) (u .runs) (unmaps f p i) .runs
-  step-runs u (switches p) = next-at golden (u .same-golden) (u .runs) (switches p) .runs
-  step-runs u (accesses a addr) = access-runs golden (u .runs) a addr (λ b l w. u .none b l)
-  step-runs u (forgets p m) = next-at golden (u .same-golden) (u .runs) (forgets p m) .runs
-
-  -- an accepted call that tells no other first block leaves the region where it is
-  region-stays : {h : Told} {s : Store} → Unmarked h s → (step : Step) → obey golden s step .answer ≡ 0 → afterAccepted h step .B ≡ h .B
-      → (base (obey golden s step .after) ≡ base s) × (blocks (obey golden s step .after) ≡ blocks s)
+  -- a forget of the region that an accepted step leaves, whose entries lie in the region, is accepted and names what they grant
+  accepted-within : {h : Told} {s : Store} → Apart h s → (step : Step) (m : ℕ) (e : ℕ → Entry) → afterAccepted h step .B ≡ h .B → ((i : ℕ) → i < m → astray (base s) (blocks s) (e i) ≡ false)
+      → obey golden s step .answer ≡ 0 → (q : ℕ) → above (gain m e writable q) 0 ≡ true → Names (obey golden s step .after) q
   unfolding afterAnswer
-  region-stays {h} {s} u step zero-is keeps =
-      let n = next-at golden (u .same-golden) (u .runs) step in
+  accepted-within {h} {s} d step m e keeps placed zero-is q g =
+      let n = next-at golden (d .same-golden) (d .runs) step in
       let told : Running (afterAccepted h step) (obey golden s step .after) = rw zero-is at (n .runs) in
-      (sym (base-told golden (u .runs) told keeps), next-blocks n)
+      let (low, high) = entries-within s m e placed q g in
+      let same = base-told golden (d .runs) told keeps in
+      (forget-whole told, rw (← same) low, rw (← same, next-blocks n) high)
 
-  -- what an accepted step grants lies in the region that it leaves
-  granted-within : {h : Told} {s : Store} → Unmarked h s → (step : Step) → onBox golden s step .answer ≡ 0 → (q : ℕ) → grantsWrite s step q ≡ true
-      → (base (onBox golden s step .after) ≤ q) × (q < base (onBox golden s step .after) + blocks (onBox golden s step .after))
+  granted-within : {h : Told} {s : Store} → Apart h s → (step : Step) → onBox golden s step .answer ≡ 0 → (q : ℕ) → grantsWrite s step q ≡ true → Names (onBox golden s step .after) q
   unfolding onBox obey grantsWrite afterAccepted
-  granted-within {h} {s} u (begins B) zero-is q g = absurd (false≢true g)
-  granted-within {h} {s} u (creates v p) zero-is q g =
-      let (first, number) = region-stays u (creates v p) zero-is refl in
-      rw (first, number) (entries-within s (tableEntries v) (tableEntry v s p) (create-placed v golden s p zero-is) q g)
-  granted-within {h} {s} u (frees v p) zero-is q g = absurd (false≢true g)
-  granted-within {h} {s} u (maps f p i t r) zero-is q g =
-      let (first, number) = region-stays u (maps f p i t r) zero-is refl in
-      rw (first, number) (entries-within s (mappingWords f) (mapping f t r) (map-placed f golden s p i t r zero-is) q g)
-  granted-within {h} {s} u (links p i t j) zero-is q g = absurd (false≢true g)
-  granted-within {h} {s} u (unmaps f p i) zero-is q g = absurd (false≢true g)
-  granted-within {h} {s} u (switches p) zero-is q g = absurd (false≢true g)
-  granted-within {h} {s} u (accesses a addr) zero-is q g = absurd (false≢true g)
-  granted-within {h} {s} u (forgets p m) zero-is q g = absurd (false≢true g)
+  granted-within d (begins B) zero-is q g = absurd (false≢true g)
+  granted-within {h} {s} d (creates v p) zero-is q g = accepted-within d (creates v p) (tableEntries v) (tableEntry v s p) refl (create-placed v golden s p zero-is) zero-is q g
+  granted-within d (frees v p) zero-is q g = absurd (false≢true g)
+  granted-within {h} {s} d (maps f p i t r) zero-is q g = accepted-within d (maps f p i t r) (mappingWords f) (mapping f t r) refl (map-placed f golden s p i t r zero-is) zero-is q g
+  granted-within d (links p i t j) zero-is q g = absurd (false≢true g)
+  granted-within d (unmaps f p i) zero-is q g = absurd (false≢true g)
+  granted-within d (switches p) zero-is q g = absurd (false≢true g)
+  granted-within d (accesses a addr) zero-is q g = absurd (false≢true g)
+  granted-within d (forgets p m) zero-is q g = absurd (false≢true g)
 
-  -- behind a forget of the whole region no block is marked
-  forget-unmarks : {h : Told} {s : Store} → h .golden ≡ golden → Running h s
-      → Unmarked (afterAnswer (forgetOutcome s (base s) (blocks s) .answer) h (forgets (base s) (blocks s))) (forgetOutcome s (base s) (blocks s) .after)
-  unfolding obey
-  forget-unmarks {h} {s} same r =
-      let o = forgetOutcome s (base s) (blocks s) in
-      let n = next-at golden same r (forgets (base s) (blocks s)) in
-      record {
-        same-golden = afterAnswer-golden (o .answer) h (forgets (base s) (blocks s)) ∙ same;
-        runs = n .runs;
-        none = λ b l k. forgotten-unmarked r (base s) (blocks s) (forget-whole r) b (omega arith) (omega (arith, next-blocks n)) k;
-      }
+  -- a forget of the whole region behind a step does the duty
+  due : {h : Told} {s : Store} → Apart h s → (step : Step) (steps : List Step) → onBox golden s step .answer ≡ 0 → (q : ℕ) → grantsWrite s step q ≡ true
+      → let after = onBox golden s step .after in Forgotten q after (forgets (base after) (blocks after) ∷ steps)
+  due d step steps zero-is q g = let (taken, low, high) = granted-within d step zero-is q g in at-once taken low high
 
-  careful-dutiful : {h : Told} {s : Store} → Unmarked h s → (steps : List Step) → Dutiful golden s (careful golden s steps)
-  unfolding Dutiful careful onBox obey grantsWrite
-  careful-dutiful u [] = tt
-  careful-dutiful {h} {s} u (step ∷ steps) =
-      let r = step-runs u step in
-      let same = afterAnswer-golden (onBox golden s step .answer) h step ∙ u .same-golden in
-      ((λ zero-is q g. let (low, high) = granted-within u step zero-is q g in at-once (forget-whole r) low high), ((λ zero-is q g. absurd (false≢true g)), careful-dutiful (forget-unmarks same r) steps))
+  -- behind a step that owes no forget, nothing has to be forgotten
+  not-due : {h : Told} {s : Store} → Apart h s → (step : Step) (steps : List Step) → owesForget golden s step ≡ false → onBox golden s step .answer ≡ 0 → (q : ℕ) → grantsWrite s step q ≡ true
+      → Forgotten q (onBox golden s step .after) steps
+  unfolding owesForget
+  not-due {h} {s} d step steps none zero-is q g =
+      let (taken, low, high) = granted-within d step zero-is q g in
+      let o = onBox golden s step in
+      let at : base (o .after) + (q - base (o .after)) ≡ q = omega arith in
+      let some : any (blocks (o .after)) (λ b. grantsWrite s step (base (o .after) + b)) ≡ true = any-hit (λ b. grantsWrite s step (base (o .after) + b)) (blocks (o .after)) (q - base (o .after)) (omega arith) (ap (grantsWrite s step) at ∙ g) in
+      let owes : owesForget golden s step ≡ true = rw (eq-eqb (o .answer) 0 zero-is, some) refl in
+      absurd (false≢true (sym none ∙ owes))
+
+  one-more : {h : Told} {s : Store} → Apart h s → (step : Step) (steps : List Step)
+      → ((h′ : Told) (s′ : Store) → Apart h′ s′ → Dutiful golden s′ (careful golden s′ steps))
+      → Dutiful golden s (careful golden s (step ∷ steps))
+  unfolding careful Dutiful onBox obey grantsWrite
+  one-more {h} {s} d step steps more = split (owesForget golden s step) refl where
+    after : Store
+    after = onBox golden s step .after
+
+    forget : Step
+    forget = forgets (base after) (blocks after)
+
+    split : (owes : Bool) → owesForget golden s step ≡ owes
+        → Dutiful golden s (step ∷ cond owes (forget ∷ careful golden (onBox golden after forget .after) steps) (careful golden after steps))
+    split true is =
+        let d′ = onward golden forget (onward golden step (rest golden d _ (due d step [], ((λ zero-is q g. absurd (false≢true g)), tt)))) in
+        (due d step _, ((λ zero-is q g. absurd (false≢true g)), more _ _ d′))
+    split false is =
+        let d′ = onward golden step (rest golden d _ (not-due d step [] is, tt)) in
+        (not-due d step _ is, more _ _ d′)
+
+  careful-dutiful : {h : Told} {s : Store} → Apart h s → (steps : List Step) → Dutiful golden s (careful golden s steps)
+  unfolding careful Dutiful
+  careful-dutiful d [] = tt
+  careful-dutiful d (step ∷ steps) = one-more d step steps (λ h′ s′ d′. careful-dutiful d′ steps)
 
 -- box 5: whatever an accepted begin was lent, and whatever the steps behind it
 pub duty-can-be-done : Duty-can-be-done
+unfolding Dutiful
 duty-can-be-done golden start B accepted steps =
-    careful-dutiful golden (record { same-golden = refl; runs = begin-accepted start B golden accepted; none = begin-unmarked start B golden accepted }) steps
+    careful-dutiful golden (record { same-golden = refl; runs = begin-accepted start B golden accepted; dutiful = tt; owed = λ b l w k. absurd (begin-unmarked start B golden accepted b l k) }) steps

@@ -18,7 +18,7 @@ use Rattle.entries.proofs.Decoding.{Lone, lone-word}
 use Rattle.entries.proofs.RoundTrip.{Encodable}
 use Rattle.rules.specs.Store.{blockWords, basePlace, activePlace, Store, blocks, base, writable, executable, counter, fill}
 use Rattle.rules.specs.Tables.{typeCode, tableBlocks, tableEntries, Form, sections, pages, larges, mappingWords, wordIndex, tableEntry, gain}
-use Rattle.rules.specs.General.{occupied, entered, tableOutside, misaligned, beyondTable, otherType, holder, executableHolder, Change, added, endValue, someOverrun, recounted, edited as editedStore}
+use Rattle.rules.specs.General.{occupied, entered, tableOutside, misaligned, beyondTable, otherType, holder, executableHolder, Change, added, endValue, recounted, edited as editedStore}
 use Rattle.rules.specs.Create.{clash, clashes}
 use Rattle.rules.specs.Steps.{Told}
 use Rattle.rules.proofs.Gains.{fault-is}

@@ -20,7 +20,7 @@ use Rattle.entries.proofs.RoundTrip.{Single, a-fault, a-link, a-section, a-page
 use Rattle.rules.specs.Store.{marked, blockWords, counterLimit, Store, blocks, base, Counter, writable, executable, counter, typeOf, someBlock, fill}
 use Rattle.rules.specs.Signature.{signedBlock, unknown}
 use Rattle.rules.specs.Tables.{typeD, typeCode, tableEntries, pages, wordIndex, tableEntry, grants, gives, gain}
-use Rattle.rules.specs.General.{tableOutside, otherType, holder, executableHolder, Change, added, removed, endValue, recounted, occupied, entered}
+use Rattle.rules.specs.General.{tableOutside, otherType, holder, executableHolder, Change, added, removed, endValue, recounted, occupied}
 use Rattle.rules.specs.Outcomes.{leaving}
 use Rattle.rules.specs.Map.{unfitTarget, clashingTarget, unsignedTarget, mapRefusals, mapAccepted, mapOutcome}
 use Rattle.rules.specs.Unmap.{unmapRefusals, unmapAfter, unmapOutcome}

@@ -23,7 +23,7 @@ use Rattle.rules.specs.Refusals.{answerOf}
 use Rattle.rules.specs.Store.{markWord, markValue, marked, blockBytes, blockWords, ledgerHeadBytes, ledgerRecordBytes, counterLimit, basePlace, Store, blocks, base, putRecordWord, recordWord, retype, typeWord, typeOf, Counter, writable, executable, counterWord, counter, someCounter, fill, outside, someBlock}
 use Rattle.rules.specs.Outcomes.{settle}
 use Rattle.rules.specs.Tables.{typeD, typeCode, l2Words, pages, larges, mapping, takes, wordIndex, tableEntry, grants, gives, gain, astray}
-use Rattle.rules.specs.Signature.{signedBlock, unknown}
+use Rattle.rules.specs.Signature.{unknown}
 use Rattle.rules.specs.General.{Change, added, removed, endValue, endsBelow, overruns, someOverrun}
 use Rattle.rules.specs.Map.{unfitTarget, clashingTarget, unsignedTarget, mapRefusals, mapOutcome}
 use Rattle.rules.specs.Link.{linkTo}

@@ -5,7 +5,7 @@ use mathlib.Core.Bool.{Bool, true, false, not, _&&_, _||_, and-false, false≢tr
 use mathlib.Core.Path.{_≡_, refl, sym, _∙_}
 use Prim.Native.Nat.{ℕ, zero, suc, _+_, _%_, _^_, _<_, _≤_}
 use native.Mathlib.Omega.{arith}
-use borrow.Author.Tests.{ltb-false, not-false}
+use borrow.Author.Tests.{ltb-false}
 use Rattle.words.specs.Bounded.{above, neqb, among}
 use Rattle.words.proofs.Bounded.{false-unless, or-false-left, or-false-right, and-false-right, among-in}
 use Rattle.entries.specs.Entries.{Entry, fault, isFault, isUnaccepted, isLink, isSection, isPage, rights as rightsOfEntry, placeFirst, placeBlocks}
@@ -17,7 +17,7 @@ use Rattle.rules.specs.Refusals.{answerOf}
 use Rattle.rules.specs.Store.{Store, blocks, base, recordWord, Counter, writable, executable, linked, counterWord, counter, typeOf, outside, someBlock}
 use Rattle.rules.specs.Signature.{unknown}
 use Rattle.rules.specs.Tables.{typeD, typeCode, Form, sections, pages, larges, level, targetBlocks, mappingWords, mapping, wordIndex, grants, gives, gain, astray}
-use Rattle.rules.specs.General.{tableOutside, misaligned, beyondTable, otherType, executableHolder, occupied, holder, added, someOverrun, entered}
+use Rattle.rules.specs.General.{tableOutside, misaligned, beyondTable, otherType, executableHolder, occupied, holder, added, someOverrun}
 use Rattle.rules.specs.Map.{unfitTarget, clashingTarget, unsignedTarget, mapRefusals, mapAccepted, mapOutcome}
 use Rattle.rules.specs.Steps.{maps, Told, afterAccepted}
 use Rattle.rules.specs.Box.{grantsWrite}

@@ -1,5 +1,5 @@
--- What passes the tests that many calls share: a running state is lent as the rules want it, and its ledger has the types told. A switch and
--- a guest's access have no others.
+-- What passes the tests that many calls share: a running state is lent as the rules want it, and its ledger has the types told. A switch,
+-- a guest's access and a forget of the whole region have no others.
 use mathlib.Core.Bool.{Bool, true, false, not, and-false}
 use mathlib.Core.List.{List, [], _∷_, _++_}
 use mathlib.Core.Option.{some}
@@ -115,9 +115,9 @@ module _ {h : Told} {s : Store} (r : Running h s) where
       let at : activeWalk s addr ≡ ends v p q = rw (is, ← r .told-base) walked in
       settle-answer (answerOf (guestRefusals a s addr)) s (guestAccepted a s addr) ∙ rw at (accepted (step no-misfit (step unbarred (step (ap not allowed) done))))
 
--- a forget of the whole region is accepted
-pub forget-whole : {h : Told} {s : Store} → Running h s → forgetOutcome s (base s) (blocks s) .answer ≡ 0
-unfolding forgetOutcome strayBlocks
-forget-whole {h} {s} r =
-    settle-answer _ s _
-    ∙ accepted (step (no-misfit r) (step (rw (inside (base s) (blocks s) (base s) (blocks s) (omega arith) (omega arith)) (and-false (above (blocks s) 0))) done))
+  -- a forget of the whole region is accepted
+  pub forget-whole : forgetOutcome s (base s) (blocks s) .answer ≡ 0
+  unfolding forgetOutcome strayBlocks
+  forget-whole =
+      settle-answer _ s _
+      ∙ accepted (step no-misfit (step (rw (inside (base s) (blocks s) (base s) (blocks s) (omega arith) (omega arith)) (and-false (above (blocks s) 0))) done))

@@ -1,6 +1,6 @@
 -- Begin, switch and forget keep the invariant: begin leaves no table, no count and no mark, switch checks that its block is a table, and
 -- forget clears marks.
-use mathlib.Core.Bool.{Bool, true, false, _&&_}
+use mathlib.Core.Bool.{Bool, false}
 use mathlib.Core.Logic.{inl, ⊎-elim}
 use mathlib.Core.Option.{Option·none-ne-some}
 use mathlib.Core.List.{List}

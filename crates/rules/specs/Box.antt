@@ -1,9 +1,10 @@
 -- Lists in which the guest's processor writes by itself (RULES: box).
-use mathlib.Core.Bool.{Bool, true, false}
+use mathlib.Core.Bool.{Bool, true, false, cond, _&&_}
 use mathlib.Core.List.{List, [], _∷_}
 use mathlib.Core.Path.{_≡_}
 use Prim.Native.Nat.{ℕ, _+_, _<_, _≤_}
-use Rattle.words.specs.Bounded.{above}
+use lib.Dec.{eqb}
+use Rattle.words.specs.Bounded.{above, any}
 use Rattle.rules.specs.Store.{Store, blocks, base, writable}
 use Rattle.rules.specs.Outcomes.{Outcome}
 use Rattle.rules.specs.Tables.{tableEntries, tableEntry, mappingWords, mapping, gain}
@@ -58,12 +59,20 @@ Box-holds =
     (golden : List ℕ) (start : Store) (B : ℕ) → beginOutcome start B .answer ≡ 0
     → (steps : List Step) → Dutiful golden (beginOutcome start B .after) steps → Claim (onBox golden) golden B (beginOutcome start B .after) steps
 
--- box 5: the steps of a list from store s on, each followed by a forget of the whole region
+-- box 5: a step on store s is accepted, and its entries give write to some block of the region
+unfoldable pub owesForget : List ℕ → Store → Step → Bool
+owesForget golden s step =
+    let o = onBox golden s step in
+    eqb (o .answer) 0 && any (blocks (o .after)) (λ b. grantsWrite s step (base (o .after) + b))
+
+-- box 5: the steps of a list from store s on, with a forget of the whole region put in behind each that grants write
 unfoldable pub careful : List ℕ → Store → List Step → List Step
 careful golden s [] = []
 careful golden s (step ∷ steps) =
     let after = onBox golden s step .after in
-    step ∷ forgets (base after) (blocks after) ∷ careful golden (forgetOutcome after (base after) (blocks after) .after) steps
+    let p = base after in
+    let m = blocks after in
+    step ∷ cond (owesForget golden s step) (forgets p m ∷ careful golden (forgetOutcome after p m .after) steps) (careful golden after steps)
 
 -- box 5: the claim that the duty is done in such a list, whatever the steps
 abbrev pub Duty-can-be-done : Type 0

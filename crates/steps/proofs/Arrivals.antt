@@ -1,19 +1,18 @@
 -- Laws of records that arrive in parts: what a list's records hold does not change when more bytes come behind them, and those that come
 -- are read as if they stood alone.
 use mathlib.Core.Bool.{Bool, true, false, not, cond, _||_, false≢true}
-use mathlib.Core.List.{List, [], _∷_, _++_, map}
+use mathlib.Core.List.{List, [], _∷_, _++_}
 use mathlib.Core.Logic.{⊎-elim}
 use mathlib.Core.Option.{Option, none, some}
 use mathlib.Core.Path.{_≡_, refl, sym, ap, _∙_}
 use Prim.Native.Nat.{ℕ, zero, suc, _+_, _-_, _*_, _<_, _≤_}
 use native.Mathlib.Nat.{add-zero, zero-add, suc-add}
 use native.Mathlib.Omega.{arith}
-use lib.Dec.{ltb}
 use lib.ListN.{length, getD, drop, length-drop, length-append, List·getD-append, List·getD-eq-default, List·getD-map}
 use lib.Seq.{getD-drop, drop-append-le}
 use borrow.Author.Tests.{lt-ltb, le-ltb}
 use Rattle.words.proofs.Bounded.{below-or-above, or-left, or-right}
-use Rattle.words.specs.Bounded.{above, neqb}
+use Rattle.words.specs.Bounded.{neqb}
 use Rattle.words.specs.Words.{word}
 use Rattle.rules.specs.Steps.{Step}
 use Rattle.steps.specs.Records.{recordBytes, callPlace, calls, stepOf, allSteps, short, wholeStep, stepAt, andThen, stepsFrom}

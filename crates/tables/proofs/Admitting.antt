@@ -1,7 +1,6 @@
 -- The last step of a create: the marks of what the new table executes, in the ledger that has its types and counts already.
-use mathlib.Core.Bool.{not}
 use mathlib.Core.List.{List}
-use mathlib.Core.Path.{_≡_, refl, sym, _∙_}
+use mathlib.Core.Path.{_≡_, refl, _∙_}
 use Prim.Native.Nat.{ℕ, _+_, _-_}
 use native.Mathlib.Omega.{arith}
 use Rattle.words.specs.Bounded.{count}

@@ -96,7 +96,7 @@ fn count_until_stuck(
     m
 }
 
-// Counts m entries. This is rare: so it reads by `accepted_entry`, which is compiled once.
+// Counts m entries. This is rare, so it reads by `accepted_entry`: the second caller that keeps `accepted_entry_of` out of the loops.
 fn count_all(change: Change, level: Level, memory: &[u8], ledger: &mut [u8], j: usize, m: usize)
     requires { ⌜ TablePlaced (levelOf level) (now memory) (now ledger) j m ⌝ }
     requires { ⌜ AllStorable (changeOf change) (lent (now memory) (now ledger)) m (entryFrom (levelOf level) (now memory) j) ⌝ }

@@ -6,14 +6,13 @@ use mathlib.Core.Path.{_≡_, refl, sym, ap, _∙_}
 use Prim.Native.Nat.{ℕ, zero, suc, _+_, _-_, _*_, _<_, _≤_}
 use native.Mathlib.Nat.{add-zero, add-suc}
 use native.Mathlib.Omega.{arith}
-use lib.Dec.{ltb}
 use lib.ListN.{length, getD, drop, length-append, length-drop, List·getD-append}
 use lib.Seq.{getD-drop, getD-append-add, drop-append-le, drop-drop}
 use borrow.Author.Tests.{lt-ltb}
 use Rattle.lines.specs.declared.Line.the-variants.{Bad}
 use Rattle.lines.specs.Lines.{textOf}
 use Rattle.rules.specs.Store.{Store}
-use Rattle.rules.specs.Steps.{Run, run, runBy}
+use Rattle.rules.specs.Steps.{Run, runBy}
 use Rattle.rules.proofs.Runs.{length-answers, length-bytes, reached-append, answers-append, bytes-append}
 use Rattle.steps.specs.Records.{recordBytes, callPlace, stepOf, andThen, allSteps, stepsFrom}
 use Rattle.steps.specs.Spoilt.{spoilt}

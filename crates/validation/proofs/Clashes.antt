@@ -1,6 +1,6 @@
 -- Refusal 11, block by block, is found entry by entry: a block gains something exactly if some entry gives it. What is left of 11, and 12, is found by the set of
 -- the blocks that the entries execute.
-use mathlib.Core.Bool.{Bool, true, false, cond, not, _&&_, _||_, and-false, or-false, or-assoc}
+use mathlib.Core.Bool.{Bool, true, false, cond, not, _&&_, _||_, and-false, or-false}
 use mathlib.Core.List.{List}
 use mathlib.Core.Logic.{_⊎_, inl, inr, ⊎-elim}
 use mathlib.Core.Path.{_≡_, refl, sym, _∙_, ap}
@@ -9,7 +9,7 @@ use native.Mathlib.Omega.{arith}
 use lib.Dec.{eqb}
 use borrow.Author.Tests.{lt-ltb, le-ltb, ltb-true, eqb-true, not-false}
 use Rattle.words.specs.Bounded.{above, among, any, count}
-use Rattle.words.proofs.Bounded.{false-unless, both-ways, or-left, or-right, and-both, any-hit, any-found, or-cases, and-true, below-or-above, any-none, any-avoids, any-same, flag-next, among-in, among-within}
+use Rattle.words.proofs.Bounded.{false-unless, both-ways, or-left, or-right, and-both, any-hit, any-found, or-cases, and-true, below-or-above, any-none, any-avoids, any-same, among-in, among-within}
 use Rattle.words.proofs.Sums.{sum-same, count-none, count-any}
 use Rattle.words.specs.Words.{word, putWord}
 use Rattle.words.proofs.Words.{Bytes, putWord-self}

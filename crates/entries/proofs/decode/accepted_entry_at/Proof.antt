@@ -1,5 +1,5 @@
 -- `entries::decode::accepted_entry_at` meets its contract: bits 1..0 tell a fault at both levels, and a page at level 2.
-use mathlib.Core.Path.{_≡_, refl, sym, _∙_, ap₂}
+use mathlib.Core.Path.{sym, _∙_, ap₂}
 use native.Mathlib.Omega.{arith}
 use borrow.Author.Needs.{needs}
 use Rattle.entries.specs.Meaning.{levelOf}

@@ -1,8 +1,7 @@
 -- `entries::decode::accepted_entry_of` meets its contract: bits 1..0 tell a fault, and each level has its own decoder.
-use mathlib.Core.Path.{_≡_, sym, _∙_, ap}
-use mathlib.Core.Bool.{false}
+use mathlib.Core.Path.{_∙_, ap}
 use borrow.Author.Needs.{needs}
-use Rattle.entries.specs.Entries.{l1Entry, entryAt, isUnaccepted}
+use Rattle.entries.specs.Entries.{l1Entry, entryAt}
 use Rattle.entries.specs.Meaning.{levelOf}
 use Rattle.entries.proofs.Decoding.{entryAt-fault}
 use Rattle.entries.proofs.decode.accepted_entry_of.Statement.{statement}

@@ -1,7 +1,7 @@
 -- `entries::decode::accepted_l2_entry` meets its contract: bit 1 of an accepted word tells its form.
-use mathlib.Core.Path.{_≡_, sym, _∙_, ap₂}
+use mathlib.Core.Path.{sym, _∙_, ap₂}
 use borrow.Author.Needs.{needs}
-use Rattle.entries.specs.Entries.{page, large, isPageForm}
+use Rattle.entries.specs.Entries.{page, large}
 use Rattle.entries.proofs.Decoding.{accepted-page, accepted-large, entryAt-page, entryAt-large}
 use Rattle.entries.proofs.decode.accepted_l2_entry.Statement.{statement}
 use Rattle.entries.proofs.decode.accepted_l2_entry.Tie as tie

@@ -1,4 +1,4 @@
--- `entries::decode::large_code` meets its contract: bits 15 and 9..4 of the word say what it grants.
+-- `entries::decode::large_code` meets its contract: a word with the form has the number of its rights.
 use mathlib.Core.Path.{sym, _∙_}
 use Prim.Native.Nat.{_<_}
 use native.Mathlib.Omega.{arith}
@@ -14,18 +14,17 @@ returns c =
     let none = sym (c .before .is-large-form .ensures) ∙ not-true (c .before .is-large-form .result) (c .if1 .taken) in
     sym (rw none at (wordCode-large w (c .before .before .pre)))
 
-small : (c : tie.After-rights-of) → c .rights-of .result < 8
-small c = rw (c .rights-of .ensures) (rightsOf-bound _ _)
+small : (c : tie.After-large-rights) → c .large-rights .result < 8
+small c = rw (c .large-rights .ensures) (rightsOf-bound _ _)
 
 returns-2 : tie.Need-returns-2
 returns-2 c =
-    let start = c .before .before .before .before .before in
+    let start = c .before .before .before in
     let w = start .args .w in
-    let form = sym (c .before .before .before .before .is-large-form .ensures) ∙ not-false (c .before .before .before .before .is-large-form .result) (c .before .before .before .if1 .left) in
-    let is = rw (c .before .before .page-ap .ensures, c .before .bits .ensures) at (c .rights-of .ensures) in
-    omega (arith, is, rw form at (wordCode-large w (start .pre)))
+    let form = sym (c .before .before .is-large-form .ensures) ∙ not-false (c .before .before .is-large-form .result) (c .before .if1 .left) in
+    omega (arith, c .large-rights .ensures, rw form at (wordCode-large w (start .pre)))
 
 pub large-code-spec : {M : Type 1} → statement M
 large-code-spec =
     tie.close
-    (tie.spec (search needs) returns (search needs) (search needs) (search needs) (λ c. omega (arith, small c)) (λ c. omega (arith, small c)) returns-2)
+    (tie.spec (search needs) returns (search needs) (λ c. omega (arith, small c)) (λ c. omega (arith, small c)) returns-2)

@@ -7,18 +7,10 @@ use Rattle.entries.proofs.decode.large_mapping.Tie as tie
 
 returns : tie.Need-returns
 returns c =
-    let j = c .before .before .before .before .args .j in
-    (ap (λ (b : ℕ). 16 * b + j % 16) (c .bits2 .ensures), cc)
+    let j = c .before .before .args .j in
+    (ap (λ (b : ℕ). 16 * b + j % 16) (c .bits .ensures), c .before .large-rights .ensures)
 
 pub large-mapping-spec : {M : Type 1} → statement M
 large-mapping-spec =
     tie.close
-    (tie.spec
-    (search needs)
-    (search needs)
-    (search needs)
-    (search needs)
-    (search needs)
-    (search needs)
-    (search needs)
-    returns)
+    (tie.spec (search needs) (search needs) (search needs) (search needs) (search needs) returns)

@@ -1,10 +1,8 @@
 -- Each case of what a read came to: bytes come behind those that are kept, and without any the session stays as it was.
 use mathlib.Core.Bool.{false≢true}
-use mathlib.Core.Path.{refl, ap, _∙_, sym}
 use native.Mathlib.Omega.{arith}
 use lib.ListN.{length}
 use borrow.Author.Needs.{needs}
-use Rattle.pagemon.specs.Conversation.{isOpen}
 use Rattle.pagemon.proofs.Turns.{bytes-fit, arrived-turn, ended-turn, later-turn, failed-turn, advanced}
 use Rattle.pagemon.proofs.conversation.answer.Statement.{statement}
 use Rattle.pagemon.proofs.conversation.answer.Tie as tie

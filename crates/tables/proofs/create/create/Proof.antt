@@ -1,12 +1,11 @@
 -- A refusal leaves the ledger; else 13 is decided by counting, and the marks of what the table executes come last.
-use mathlib.Core.Path.{refl, sym, _∙_, ap}
+use mathlib.Core.Path.{refl, sym, _∙_}
 use native.Mathlib.Omega.{arith}
 use borrow.Author.Tests.{not-true, not-false}
 use Rattle.words.proofs.Bounded.{told, any-none}
 use Rattle.rules.specs.Create.{createOutcome}
-use Rattle.rules.specs.Store.{lent}
 use Rattle.rules.proofs.Refusals.{passed, now, rest}
-use Rattle.rules.proofs.State.{fits, within}
+use Rattle.rules.proofs.State.{fits}
 use Rattle.ledger.proofs.Judge.{decides, none, here, past, refused, accepted, leaves-refused, leaves-accepted, hashed-refused, hashed-accepted}
 use Rattle.validation.proofs.Clashes.{all-placed}
 use Rattle.validation.proofs.Bits.{empty-set}

@@ -1,11 +1,10 @@
 -- Each return is decided by the tests up to its own; what is hashed settles 12 and the number.
-use mathlib.Core.Path.{_∙_, sym, refl}
+use mathlib.Core.Path.{refl}
 use native.Mathlib.Omega.{arith}
 use Rattle.rules.proofs.State.{fits}
 use Rattle.ledger.proofs.Judge.{decides, none, here, past}
 use Rattle.validation.proofs.Clashes.{clash-found, unsigned-found, gathered-inside, admitted}
 use Rattle.validation.proofs.Hashing.{region-unknown, region-known, region-counted}
-use borrow.Author.Needs.{needs}
 use Rattle.validation.proofs.executed.executed_refusal.Statement.{statement}
 use Rattle.validation.proofs.executed.executed_refusal.Tie as tie
 

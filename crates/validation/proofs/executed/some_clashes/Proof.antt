@@ -1,10 +1,7 @@
 -- Where no entry writes, none writes a block of the set.
-use mathlib.Core.Bool.{false}
-use mathlib.Core.Path.{_≡_, refl, sym}
+use mathlib.Core.Path.{refl, sym}
 use borrow.Author.Needs.{needs}
 use Rattle.words.proofs.Bounded.{any-none, any-avoids}
-use Rattle.rules.specs.Store.{writable}
-use Rattle.rules.specs.Tables.{grants}
 use Rattle.validation.specs.Sets.{meetsMembers}
 use Rattle.validation.proofs.executed.some_clashes.Statement.{statement}
 use Rattle.validation.proofs.executed.some_clashes.Tie as tie

@@ -1,5 +1,4 @@
 -- Only where the entry does not write can the number stay 0.
-use mathlib.Core.Path.{sym, _∙_}
 use native.Mathlib.Omega.{arith}
 use Rattle.words.proofs.Bounded.{told}
 use borrow.Author.Needs.{needs}
