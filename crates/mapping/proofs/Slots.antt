@@ -1,12 +1,12 @@
 -- What the tests of a table and an index say of the words.
 use mathlib.Core.Bool.{false}
 use mathlib.Core.Path.{_≡_}
-use Prim.Native.Nat.{ℕ, _+_, _-_, _*_, _/_, _%_, _^_, _<_, _≤_}
+use Prim.Native.Nat.{ℕ, _+_, _-_, _*_, _/_, _%_, _<_, _≤_}
 use native.Mathlib.Omega.{arith}
 use borrow.Author.Tests.{leb-false}
 use Rattle.entries.specs.Entries.{Level}
 use Rattle.rules.specs.Store.{blockWords, Store, base, blocks}
-use Rattle.rules.specs.Tables.{tableBlocks, tableEntries, Form, sections, pages, larges, level, mappingWords}
+use Rattle.rules.specs.Tables.{tableBlocks, tableEntries, wordIndex, Form, sections, pages, larges, level, mappingWords}
 use Rattle.rules.specs.General.{misaligned, holder}
 use Rattle.rules.proofs.Edits.{words-in-block}
 use Rattle.rules.proofs.State.{Fit, fits, within}
@@ -39,6 +39,6 @@ some-words larges = omega arith
 pub mapping-slot : (f : Form) {s : Store} {p i : ℕ} → misaligned i (mappingWords f) ≡ false → InTable (level f) s p i → Slot s p i (mappingWords f)
 mapping-slot f {i = i} aligned t = slot (mappingWords f) (some-words f) (words-in-block f i aligned) t
 
--- the block that holds the first of the words has a record
-pub slot-holder : {s : Store} {p i m : ℕ} → Slot s p i m → (holder p i < 2 ^ 32) × InLedger (s .ledger) (holder p i - base s + 1)
-slot-holder {s} sl = let f = fits s (base s) (sl .fits) in (omega arith, omega arith)
+-- the block that holds the first of the words has a record, and the number of that word gives the number of the record
+pub slot-record : {s : Store} {p i m : ℕ} → Slot s p i m → (wordIndex s p i / blockWords ≡ holder p i - base s) × InLedger (s .ledger) (holder p i - base s + 1)
+slot-record {s} sl = let f = fits s (base s) (sl .fits) in let low = sl .low in (omega arith, omega arith)

@@ -21,7 +21,6 @@ use words::put_word;
 ghost use mathlib.Core.Path.{_≡_};
 ghost use Prim.Native.Nat.{ℕ, _+_, _-_, _*_, _^_, _<_, _≤_};
 ghost use lib.ListN.{length};
-ghost use Rattle.words.specs.Bounded.{Small};
 ghost use Rattle.words.specs.Words.{word};
 ghost use Rattle.entries.specs.Entries as specified;
 ghost use Rattle.entries.specs.Meaning.{levelOf, meaning};
@@ -32,7 +31,7 @@ ghost use Rattle.rules.specs.Tables.{tableEntry, wordIndex};
 ghost use Rattle.rules.specs.General.{holder, occupied, recounted};
 ghost use Rattle.ledger.specs.Counters.{Spreads};
 ghost use Rattle.ledger.specs.Meaning.{changeOf};
-ghost use Rattle.ledger.specs.Needs.{Countable, GrantsInside, recordOf};
+ghost use Rattle.ledger.specs.Needs.{Countable, GrantsInside};
 ghost use Rattle.mapping.specs.Needs.{InTable, Slot};
 ghost use Rattle.mapping.specs.Pieces.{holderRefusals};
 
@@ -51,14 +50,6 @@ pub fn entry_in(level: Level, memory: &[u8], ledger: &[u8], block: u32, index: u
     entry_at(level, memory, word_index(ledger, block, index))
 }
 
-// The number of the record of the block that holds an entry of the table at a block.
-fn holder_record(ledger: &[u8], block: u32, index: u32) -> usize
-    requires { ⌜ (ledgerHeadBytes ≤ length (now ledger)) × (word (now ledger) basePlace ≤ block) × (holder block index < 2 ^ 32) ⌝ }
-    ensures { λ r. ⌜ Small (recordOf (now (ledger .entry)) (holder block index)) (2 ^ 32) r ⌝ }
-{
-    record_of(ledger, block + index / BLOCK_WORDS)
-}
-
 // Refusals 5 and 7 of the block that holds the entry.
 pub fn holder_refusal(level: Level, memory: &[u8], ledger: &[u8], block: u32, index: u32) -> u32
     requires { ⌜ InTable (levelOf level) (lent (now memory) (now ledger)) block index ⌝ }
@@ -67,7 +58,7 @@ pub fn holder_refusal(level: Level, memory: &[u8], ledger: &[u8], block: u32, in
     if is_other_type(level, memory, ledger, block, table_type(level)) {
         return WRONG_TYPE;
     }
-    let b = holder_record(ledger, block, index);
+    let b = record_of(ledger, block + index / BLOCK_WORDS);
     if 0 < record_word(ledger, EXECUTABLE, b) {
         return EXECUTABLE_HOLDER;
     }
@@ -130,7 +121,7 @@ pub fn write_entries(
     ensures { λ r. ⌜ ((l : ℕ) (x : ℕ → specified.Entry) → Spreads l x (meaning e) p n → now (ledger .exit) ≡ clearMark (recounted (changeOf change) (lent (now (memory .entry)) (now (ledger .entry))) l x) (holder block index - storedBase (lent (now (memory .entry)) (now (ledger .entry))))) ⌝ }
 {
     let j = word_index(ledger, block, index);
-    let record = holder_record(ledger, block, index);
+    let record = j / BLOCK_WORDS as usize;
     change_blocks(change, memory, ledger, e, p, n);
     clear_mark(ledger, record);
     fill_words(memory, j, m as usize, w);
