@@ -32,7 +32,7 @@ def measure(crate, log):
 THEOREM = ("words", "signature", "entries", "rules", "monitor")
 BEYOND = ("steps", "lines", "transcript", "pagemon")
 INNER_FILES = ("entries/specs/Needs.antt", "transcript/specs/Needs.antt")
-BEYOND_FILES = ("rules/specs/Policies.antt",)
+BEYOND_FILES = ("rules/specs/Box.antt", "rules/specs/Policies.antt")
 
 
 def group(name, crate):
@@ -58,7 +58,7 @@ def main():
             name = str(f.relative_to(ROOT / "crates"))
             if f.name != "Lib.antt":
                 groups[group(name, crate)].append((name, lines([f])))
-    titles = ("definitions up to the theorem over lists, the signature included", "definitions for the runner, the program and the policies", "definitions of what inner functions owe each other")
+    titles = ("definitions up to the theorem over lists, the signature included", "definitions for the box, the runner, the program and the policies", "definitions of what inner functions owe each other")
     for title, files in zip(titles, groups):
         print()
         print(f"| {title} | lines |")

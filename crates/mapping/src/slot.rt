@@ -101,7 +101,8 @@ fn fill_words(memory: &mut [u8], j: usize, m: usize, w: u32)
 }
 
 // Writes the m words from an index on, clears the mark of the block that holds them, and adds what the entry e grants to the blocks from p on, or takes
-// it away: what the entries of these words give that are new, or stood there.
+// it away: what the entries of these words give that are new, or stood there. The block's record by the number of the word, and not by `record_of`: so
+// this is small enough to be compiled into map, link and unmap.
 pub fn write_entries(
     change: Change,
     memory: &mut [u8],

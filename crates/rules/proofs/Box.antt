@@ -4,13 +4,14 @@ use mathlib.Core.Bool.{Bool, true, false, false≢true}
 use mathlib.Core.List.{List, [], _∷_}
 use mathlib.Core.Logic.{_⊎_, inl, inr, ⊎-elim}
 use mathlib.Core.Path.{_≡_, refl, sym, _∙_, subst}
-use Prim.Native.Nat.{ℕ, zero, suc, _+_, _-_, _<_}
+use Prim.Native.Nat.{ℕ, zero, suc, _+_, _<_}
 use native.Mathlib.Omega.{arith}
 use Rattle.rules.specs.Store.{Store, blocks, base, writable, executable}
 use Rattle.rules.specs.Outcomes.{Outcome}
 use Rattle.rules.specs.Guest.{Access, guestOutcome}
+use Rattle.rules.specs.Begin.{beginOutcome}
 use Rattle.rules.specs.Forget.{forgetOutcome}
-use Rattle.rules.specs.Steps.{Step, begins, creates, frees, maps, links, unmaps, switches, accesses, forgets, obey, Told, afterAccepted, afterAnswer}
+use Rattle.rules.specs.Steps.{Step, begins, creates, frees, maps, links, unmaps, switches, accesses, forgets, obey, Told, begun, afterAccepted, afterAnswer}
 use Rattle.rules.specs.Box.{untold, onBox, grantsWrite, Forgotten, at-once, then, Dutiful, Box-holds}
 use Rattle.rules.proofs.State.{recorded, MarkedAt, Running, Grows, Next, next-blocks}
 use Rattle.rules.proofs.Starting.{begin-accepted, begin-unmarked, forgotten-unmarked}
@@ -167,14 +168,16 @@ module _ (golden : List ℕ) where
         fetched = λ {h} {s} {addr} {steps} d zero-is. guest-fetched (d .runs) addr zero-is;
       }
 
-  -- at the end of a list nothing is owed: no block is both writable and marked, and a list can begin in this state whose duty is done
+  -- nothing is owed at the end of a list, so that no block is both writable and marked; and any list whose duty is done can begin there
   pub rest : {h : Told} {s : Store} → Duty h s [] → (steps : List Step) → Dutiful golden s steps → Duty h s steps
   unfolding forgetsFirst
   rest d steps dutiful = record { same-golden = d .same-golden; runs = d .runs; dutiful = dutiful; owed = λ b l w k. absurd (false≢true (forget-first (d .owed b l w k))) }
 
+  pub begin-settled : (start : Store) (B : ℕ) → beginOutcome start B .answer ≡ 0 → Duty (begun B golden) (beginOutcome start B .after) []
+  unfolding Dutiful
+  begin-settled start B accepted =
+      record { same-golden = refl; runs = begin-accepted start B golden accepted; dutiful = tt; owed = λ b l w k. absurd (begin-unmarked start B golden accepted b l k) }
+
 -- box 3: whatever an accepted begin was lent, and whatever the steps behind it
 pub box : Box-holds
-box golden start B accepted steps dutiful =
-    let r = begin-accepted start B golden accepted in
-    claimed (onBox golden) (Duty golden) (box-keeps golden) golden steps
-    (record { same-golden = refl; runs = r; dutiful = dutiful; owed = λ b l w k. absurd (begin-unmarked start B golden accepted b l k) })
+box golden start B accepted steps dutiful = claimed (onBox golden) (Duty golden) (box-keeps golden) golden steps (rest golden (begin-settled golden start B accepted) steps dutiful)

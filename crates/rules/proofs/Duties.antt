@@ -1,4 +1,5 @@
--- The duty of the box can be done in every list: by a forget of the whole region behind each step that grants write.
+-- The duty of the box can be done in every list, by a forget of the whole region behind each step that grants write: what an accepted step grants lies
+-- in the region, and a forget of the whole region is accepted.
 use mathlib.Core.Bool.{Bool, true, false, cond, false≢true}
 use mathlib.Core.List.{List, [], _∷_}
 use mathlib.Core.Path.{_≡_, refl, sym, _∙_, ap}
@@ -12,16 +13,15 @@ use Rattle.rules.specs.Store.{Store, blocks, base, writable}
 use Rattle.rules.specs.Tables.{tableEntries, tableEntry, mappingWords, mapping, gain, astray}
 use Rattle.rules.specs.Forget.{forgetOutcome}
 use Rattle.rules.specs.Steps.{Step, begins, creates, frees, maps, links, unmaps, switches, accesses, forgets, obey, Told, afterAccepted, afterAnswer}
-use Rattle.rules.specs.Box.{onBox, grantsWrite, Forgotten, at-once, Dutiful, owesForget, careful, Duty-can-be-done}
+use Rattle.rules.specs.Box.{onBox, grantsWrite, Forgotten, at-once, Dutiful, owesForget, forgetAll, careful, Duty-can-be-done}
 use Rattle.rules.proofs.Gains.{grants-place, gives-within, gain-found}
 use Rattle.rules.proofs.State.{Running, next-blocks}
 use Rattle.rules.proofs.Walk.{cover-within}
-use Rattle.rules.proofs.Starting.{begin-accepted, begin-unmarked}
 use Rattle.rules.proofs.Creating.{create-placed}
 use Rattle.rules.proofs.Mapping.{map-placed}
 use Rattle.rules.proofs.Demand3.{next-at}
 use Rattle.rules.proofs.Passing.{forget-whole}
-use Rattle.rules.proofs.Box.{Duty, base-told, onward, rest}
+use Rattle.rules.proofs.Box.{Duty, base-told, onward, rest, begin-settled}
 
 -- entries whose places lie in the region give write to blocks of the region alone
 entries-within : (s : Store) (m : ℕ) (e : ℕ → Entry) → ((i : ℕ) → i < m → astray (base s) (blocks s) (e i) ≡ false)
@@ -33,16 +33,16 @@ entries-within s m e placed q g =
     (omega arith, omega arith)
 
 module _ (golden : List ℕ) where
-  -- no block is both writable and marked
-  abbrev Apart : Told → Store → Type 0
-  Apart h s = Duty golden h s []
+  -- the state in which nothing is owed: no block is both writable and marked
+  abbrev Settled : Told → Store → Type 0
+  Settled h s = Duty golden h s []
 
   -- a forget of the whole region is accepted, and names physical block q
   abbrev Names : Store → ℕ → Type 0
   Names s q = (forgetOutcome s (base s) (blocks s) .answer ≡ 0) × (base s ≤ q) × (q < base s + blocks s)
 
   -- a forget of the region that an accepted step leaves, whose entries lie in the region, is accepted and names what they grant
-  accepted-within : {h : Told} {s : Store} → Apart h s → (step : Step) (m : ℕ) (e : ℕ → Entry) → afterAccepted h step .B ≡ h .B → ((i : ℕ) → i < m → astray (base s) (blocks s) (e i) ≡ false)
+  accepted-within : {h : Told} {s : Store} → Settled h s → (step : Step) (m : ℕ) (e : ℕ → Entry) → afterAccepted h step .B ≡ h .B → ((i : ℕ) → i < m → astray (base s) (blocks s) (e i) ≡ false)
       → obey golden s step .answer ≡ 0 → (q : ℕ) → above (gain m e writable q) 0 ≡ true → Names (obey golden s step .after) q
   unfolding afterAnswer
   accepted-within {h} {s} d step m e keeps placed zero-is q g =
@@ -52,7 +52,7 @@ module _ (golden : List ℕ) where
       let same = base-told golden (d .runs) told keeps in
       (forget-whole told, rw (← same) low, rw (← same, next-blocks n) high)
 
-  granted-within : {h : Told} {s : Store} → Apart h s → (step : Step) → onBox golden s step .answer ≡ 0 → (q : ℕ) → grantsWrite s step q ≡ true → Names (onBox golden s step .after) q
+  granted-within : {h : Told} {s : Store} → Settled h s → (step : Step) → onBox golden s step .answer ≡ 0 → (q : ℕ) → grantsWrite s step q ≡ true → Names (onBox golden s step .after) q
   unfolding onBox obey grantsWrite afterAccepted
   granted-within d (begins B) zero-is q g = absurd (false≢true g)
   granted-within {h} {s} d (creates v p) zero-is q g = accepted-within d (creates v p) (tableEntries v) (tableEntry v s p) refl (create-placed v golden s p zero-is) zero-is q g
@@ -65,12 +65,12 @@ module _ (golden : List ℕ) where
   granted-within d (forgets p m) zero-is q g = absurd (false≢true g)
 
   -- a forget of the whole region behind a step does the duty
-  due : {h : Told} {s : Store} → Apart h s → (step : Step) (steps : List Step) → onBox golden s step .answer ≡ 0 → (q : ℕ) → grantsWrite s step q ≡ true
-      → let after = onBox golden s step .after in Forgotten q after (forgets (base after) (blocks after) ∷ steps)
+  due : {h : Told} {s : Store} → Settled h s → (step : Step) (steps : List Step) → onBox golden s step .answer ≡ 0 → (q : ℕ) → grantsWrite s step q ≡ true
+      → let after = onBox golden s step .after in Forgotten q after (forgetAll after ∷ steps)
   due d step steps zero-is q g = let (taken, low, high) = granted-within d step zero-is q g in at-once taken low high
 
   -- behind a step that owes no forget, nothing has to be forgotten
-  not-due : {h : Told} {s : Store} → Apart h s → (step : Step) (steps : List Step) → owesForget golden s step ≡ false → onBox golden s step .answer ≡ 0 → (q : ℕ) → grantsWrite s step q ≡ true
+  not-due : {h : Told} {s : Store} → Settled h s → (step : Step) (steps : List Step) → owesForget golden s step ≡ false → onBox golden s step .answer ≡ 0 → (q : ℕ) → grantsWrite s step q ≡ true
       → Forgotten q (onBox golden s step .after) steps
   unfolding owesForget
   not-due {h} {s} d step steps none zero-is q g =
@@ -81,33 +81,28 @@ module _ (golden : List ℕ) where
       let owes : owesForget golden s step ≡ true = rw (eq-eqb (o .answer) 0 zero-is, some) refl in
       absurd (false≢true (sym none ∙ owes))
 
-  one-more : {h : Told} {s : Store} → Apart h s → (step : Step) (steps : List Step)
-      → ((h′ : Told) (s′ : Store) → Apart h′ s′ → Dutiful golden s′ (careful golden s′ steps))
+  one-more : {h : Told} {s : Store} → Settled h s → (step : Step) (steps : List Step)
+      → ((h′ : Told) (s′ : Store) → Settled h′ s′ → Dutiful golden s′ (careful golden s′ steps))
       → Dutiful golden s (careful golden s (step ∷ steps))
   unfolding careful Dutiful onBox obey grantsWrite
   one-more {h} {s} d step steps more = split (owesForget golden s step) refl where
     after : Store
     after = onBox golden s step .after
 
-    forget : Step
-    forget = forgets (base after) (blocks after)
-
     split : (owes : Bool) → owesForget golden s step ≡ owes
-        → Dutiful golden s (step ∷ cond owes (forget ∷ careful golden (onBox golden after forget .after) steps) (careful golden after steps))
+        → Dutiful golden s (step ∷ cond owes (forgetAll after ∷ careful golden (onBox golden after (forgetAll after) .after) steps) (careful golden after steps))
     split true is =
-        let d′ = onward golden forget (onward golden step (rest golden d _ (due d step [], ((λ zero-is q g. absurd (false≢true g)), tt)))) in
+        let d′ = onward golden (forgetAll after) (onward golden step (rest golden d _ (due d step [], ((λ zero-is q g. absurd (false≢true g)), tt)))) in
         (due d step _, ((λ zero-is q g. absurd (false≢true g)), more _ _ d′))
     split false is =
         let d′ = onward golden step (rest golden d _ (not-due d step [] is, tt)) in
         (not-due d step _ is, more _ _ d′)
 
-  careful-dutiful : {h : Told} {s : Store} → Apart h s → (steps : List Step) → Dutiful golden s (careful golden s steps)
+  careful-dutiful : {h : Told} {s : Store} → Settled h s → (steps : List Step) → Dutiful golden s (careful golden s steps)
   unfolding careful Dutiful
   careful-dutiful d [] = tt
   careful-dutiful d (step ∷ steps) = one-more d step steps (λ h′ s′ d′. careful-dutiful d′ steps)
 
 -- box 5: whatever an accepted begin was lent, and whatever the steps behind it
 pub duty-can-be-done : Duty-can-be-done
-unfolding Dutiful
-duty-can-be-done golden start B accepted steps =
-    careful-dutiful golden (record { same-golden = refl; runs = begin-accepted start B golden accepted; dutiful = tt; owed = λ b l w k. absurd (begin-unmarked start B golden accepted b l k) }) steps
+duty-can-be-done golden start B accepted steps = careful-dutiful golden (begin-settled golden start B accepted) steps

@@ -65,14 +65,16 @@ owesForget golden s step =
     let o = onBox golden s step in
     eqb (o .answer) 0 && any (blocks (o .after)) (λ b. grantsWrite s step (base (o .after) + b))
 
+-- box 5: a forget of the whole region
+abbrev pub forgetAll : Store → Step
+forgetAll s = forgets (base s) (blocks s)
+
 -- box 5: the steps of a list from store s on, with a forget of the whole region put in behind each that grants write
 unfoldable pub careful : List ℕ → Store → List Step → List Step
 careful golden s [] = []
 careful golden s (step ∷ steps) =
     let after = onBox golden s step .after in
-    let p = base after in
-    let m = blocks after in
-    step ∷ cond (owesForget golden s step) (forgets p m ∷ careful golden (forgetOutcome after p m .after) steps) (careful golden after steps)
+    step ∷ cond (owesForget golden s step) (forgetAll after ∷ careful golden (onBox golden after (forgetAll after) .after) steps) (careful golden after steps)
 
 -- box 5: the claim that the duty is done in such a list, whatever the steps
 abbrev pub Duty-can-be-done : Type 0
