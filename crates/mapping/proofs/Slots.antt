@@ -39,6 +39,6 @@ some-words larges = omega arith
 pub mapping-slot : (f : Form) {s : Store} {p i : ℕ} → misaligned i (mappingWords f) ≡ false → InTable (level f) s p i → Slot s p i (mappingWords f)
 mapping-slot f {i = i} aligned t = slot (mappingWords f) (some-words f) (words-in-block f i aligned) t
 
--- the block that holds the first of the words has a record, and the number of that word gives the number of the record
+-- the holder of the first word has a record, and the number of the word gives its number
 pub slot-record : {s : Store} {p i m : ℕ} → Slot s p i m → (wordIndex s p i / blockWords ≡ holder p i - base s) × InLedger (s .ledger) (holder p i - base s + 1)
 slot-record {s} sl = let f = fits s (base s) (sl .fits) in let low = sl .low in (omega arith, omega arith)
