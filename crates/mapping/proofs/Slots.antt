@@ -35,7 +35,7 @@ some-words sections = omega arith
 some-words pages = omega arith
 some-words larges = omega arith
 
--- the words of a mapping, from an index that is a multiple of their number
+-- the words of a mapping, whose number divides the index of the first
 pub mapping-slot : (f : Form) {s : Store} {p i : ℕ} → misaligned i (mappingWords f) ≡ false → InTable (level f) s p i → Slot s p i (mappingWords f)
 mapping-slot f {i = i} aligned t = slot (mappingWords f) (some-words f) (words-in-block f i aligned) t
 
