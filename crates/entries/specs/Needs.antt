@@ -4,7 +4,7 @@ use mathlib.Core.List.{List}
 use mathlib.Core.Path.{_≡_}
 use Prim.Native.Nat.{ℕ, _+_, _*_, _/_, _%_, _^_, _≤_, _<_}
 use lib.Dec.{eqb}
-use lib.ListN.{length}
+use lib.ListN.{length, getD}
 use Rattle.words.specs.Words.{bits}
 use Rattle.entries.specs.Entries.{Level, l1, l2, sectionBlocks, largeBlocks, runWords}
 
@@ -36,3 +36,7 @@ IsTablePlace p = p < 2 ^ 22
 abbrev pub hasPageBit : Level → ℕ → Bool
 hasPageBit l1 w = false
 hasPageBit l2 w = eqb (bits w 1 1) 1
+
+-- forms 5: the number at an index of a table that has two to a byte, that of an even index in the low half
+unfoldable pub packedAt : List ℕ → ℕ → ℕ
+packedAt pairs i = bits (getD pairs (i / 2) 0) (4 * (i % 2)) 4

@@ -1,0 +1,48 @@
+-- Laws of the table of page rights: its numbers fit half a byte, and are read back where two of them share one.
+use mathlib.Core.Path.{_≡_, _∙_, ap}
+use mathlib.Core.Bool.{Bool, true, false, cond, _&&_}
+use Prim.Native.Nat.{ℕ, zero, suc, _+_, _*_, _/_, _%_, _<_}
+use native.Mathlib.Omega.{arith}
+use lib.Dec.{eqb}
+use Rattle.words.specs.Lists.{tabulate}
+use Rattle.words.specs.Words.{bits}
+use Rattle.words.proofs.Lists.{getD-tabulate}
+use Rattle.entries.specs.Entries.{fault, unaccepted, page, large, pageAP, pageXN, largeXN, isPageForm, isLargeForm, l2Entry, codeOf, wordCode, wholeWord, pageCode}
+use Rattle.entries.specs.Needs.{packedAt}
+use Rattle.entries.proofs.Decoding.{rightsOf-bound}
+
+-- byte i of the table of f
+unfoldable pub pairOf : (ℕ → ℕ) → ℕ → ℕ
+pairOf f i = f (2 * i) + 16 * f (2 * i + 1)
+
+-- where the numbers fit, each half has its own, and the whole table gives f
+module _ (f : ℕ → ℕ) (fits : (i : ℕ) → f i < 16) where
+  half : (i k : ℕ) → k < 2 → bits (pairOf f i) (4 * k) 4 ≡ f (2 * i + k)
+  unfolding pairOf
+  half i zero h =
+      let low = fits (2 * i) in
+      let here : bits (pairOf f i) 0 4 ≡ f (2 * i) = omega arith in
+      here ∙ ap f (omega arith)
+  half i (suc zero) h =
+      let low = fits (2 * i) in
+      let high = fits (2 * i + 1) in
+      omega arith
+  half i (suc (suc k)) h = let z : ⊥ = omega arith in absurd z
+
+  pub packedAt-tabulate : (n i : ℕ) → i < 2 * n → packedAt (tabulate (pairOf f) n) i ≡ f i
+  unfolding packedAt
+  packedAt-tabulate n i h =
+      rw (getD-tabulate (pairOf f) n (i / 2) (omega arith)) (half (i / 2) (i % 2) (omega arith) ∙ ap f (omega arith))
+
+-- page rights do
+pub pageCode-bound : (low : ℕ) → pageCode low < 16
+unfolding pageCode wordCode l2Entry codeOf
+pageCode-bound low =
+    each (eqb (bits low 0 2) 0b01) (eqb (bits low 0 2) 0b00) (isPageForm low) (isLargeForm low && true) _ _
+    (rightsOf-bound (pageAP low) (pageXN low)) (rightsOf-bound (pageAP low) (largeXN low)) where
+      each : (s t u v : Bool) (p b : ℕ) {q r : ℕ} → q < 8 → r < 8 → cond s wholeWord (codeOf (cond t fault (cond u (page p q) (cond v (large b r) unaccepted)))) < 16
+      each true t u v p b h k = omega arith
+      each false true u v p b h k = omega arith
+      each false false true v p b h k = omega arith
+      each false false false true p b h k = omega arith
+      each false false false false p b h k = omega arith

@@ -1,0 +1,12 @@
+-- `entries::table::packed_at` meets its contract: the byte at half the index, and of it the half that the index says.
+use borrow.Author.Needs.{needs}
+use Rattle.entries.specs.Needs.{packedAt}
+use Rattle.entries.proofs.table.packed_at.Statement.{statement}
+use Rattle.entries.proofs.table.packed_at.Tie as tie
+
+returns : tie.Need-returns
+unfolding packedAt
+returns c = c .half-of .ensures
+
+pub packed-at-spec : {M : Type 1} → statement M
+packed-at-spec = tie.close (tie.spec (search needs) (search needs) returns)
