@@ -1,4 +1,4 @@
--- Laws of the table of page rights: its numbers fit half a byte, and are read back where two of them share one.
+-- Laws of packed tables: numbers below 16 are read back, and page rights are below 16.
 use mathlib.Core.Path.{_≡_, _∙_, ap}
 use mathlib.Core.Bool.{Bool, true, false, cond, _&&_}
 use Prim.Native.Nat.{ℕ, zero, suc, _+_, _*_, _/_, _%_, _<_}
@@ -11,30 +11,30 @@ use Rattle.entries.specs.Entries.{fault, unaccepted, page, large, pageAP
 use Rattle.entries.specs.Needs.{packedAt}
 use Rattle.entries.proofs.Decoding.{rightsOf-bound}
 
--- byte i of the table of f
+-- byte i of the packed table of f
 unfoldable pub pairOf : (ℕ → ℕ) → ℕ → ℕ
 pairOf f i = f (2 * i) + 16 * f (2 * i + 1)
 
--- where the numbers fit, each half has its own, and the whole table gives f
+-- where its numbers fit, a half of a byte has one of them, and the table gives f
 module _ (f : ℕ → ℕ) (fits : (i : ℕ) → f i < 16) where
-  half : (i k : ℕ) → k < 2 → bits (pairOf f i) (4 * k) 4 ≡ f (2 * i + k)
+  bits-pairOf : (i k : ℕ) → k < 2 → bits (pairOf f i) (4 * k) 4 ≡ f (2 * i + k)
   unfolding pairOf
-  half i zero h =
+  bits-pairOf i zero h =
       let low = fits (2 * i) in
       let here : bits (pairOf f i) 0 4 ≡ f (2 * i) = omega arith in
       here ∙ ap f (omega arith)
-  half i (suc zero) h =
+  bits-pairOf i (suc zero) h =
       let low = fits (2 * i) in
       let high = fits (2 * i + 1) in
       omega arith
-  half i (suc (suc k)) h = let z : ⊥ = omega arith in absurd z
+  bits-pairOf i (suc (suc k)) h = let z : ⊥ = omega arith in absurd z
 
   pub packedAt-tabulate : (n i : ℕ) → i < 2 * n → packedAt (tabulate (pairOf f) n) i ≡ f i
   unfolding packedAt
   packedAt-tabulate n i h =
-      rw (getD-tabulate (pairOf f) n (i / 2) (omega arith)) (half (i / 2) (i % 2) (omega arith) ∙ ap f (omega arith))
+      rw (getD-tabulate (pairOf f) n (i / 2) (omega arith)) (bits-pairOf (i / 2) (i % 2) (omega arith) ∙ ap f (omega arith))
 
--- page rights do
+-- page rights fit half a byte
 pub pageCode-bound : (low : ℕ) → pageCode low < 16
 unfolding pageCode wordCode l2Entry codeOf
 pageCode-bound low =

@@ -1,4 +1,4 @@
--- What functions owe each other: a word that lies in the memory, a place that has an address, a bit (RULES: entries, calls).
+-- What functions owe each other: a word that lies in the memory, a place that has an address, a bit, a number of a packed table (RULES: entries, calls, forms).
 use mathlib.Core.Bool.{Bool, false}
 use mathlib.Core.List.{List}
 use mathlib.Core.Path.{_≡_}
@@ -37,6 +37,6 @@ abbrev pub hasPageBit : Level → ℕ → Bool
 hasPageBit l1 w = false
 hasPageBit l2 w = eqb (bits w 1 1) 1
 
--- forms 5: the number at an index of a table that has two to a byte, that of an even index in the low half
+-- forms 5: the number at an index of a packed table, which has two to a byte, that of an even index in the low half
 unfoldable pub packedAt : List ℕ → ℕ → ℕ
 packedAt pairs i = bits (getD pairs (i / 2) 0) (4 * (i % 2)) 4

@@ -5,8 +5,7 @@ ghost use Rattle.words.specs.Words.{bits};
 ghost use Rattle.entries.specs.Entries.{pageAP, pageCode, pageXN};
 ghost use Rattle.entries.specs.Needs.{packedAt};
 
-// The numbers of entries 22, two to a byte: that of the even index in the low half. A line has the bytes of 64 indices; the last byte of the first has F for
-// index 03E and B for 03F.
+// The numbers of entries 22, packed as forms 5 says, 64 to a line. The first line ends with BF: F for index 03E, B for 03F.
 const PAGE_RIGHTS: [u8; 512] =
     *b"\x60\x88\x60\x88\x60\x88\x60\x88\x60\x88\x60\x88\x60\x88\x60\x88\x60\x9d\x60\x9d\x60\x9d\x60\x9d\x60\xbf\x60\xbf\x60\xbf\x60\xbf\
     \x60\x88\x60\x88\x60\x88\x60\x88\x60\x88\x60\x88\x60\x88\x60\x88\x60\x9d\x60\x9d\x60\x9d\x60\x9d\x60\xbf\x60\xbf\x60\xbf\x60\xbf\
@@ -25,21 +24,21 @@ const PAGE_RIGHTS: [u8; 512] =
     \x60\x77\x60\x77\x60\x77\x60\x77\x60\x88\x60\x88\x60\x88\x60\x88\x60\x9d\x60\x9d\x60\x9d\x60\x9d\x60\x9d\x60\x9d\x60\x9d\x60\x9d\
     \x60\x77\x60\x77\x60\x77\x60\x77\x60\x88\x60\x88\x60\x88\x60\x88\x60\x9d\x60\x9d\x60\x9d\x60\x9d\x60\x9d\x60\x9d\x60\x9d\x60\x9d";
 
-// Numbers below this fit half a byte.
-const HALF: u8 = 16;
+// Half a byte has sixteen values.
+const HALF_VALUES: u8 = 16;
 
 // The number of an index, in the byte that it shares with its neighbour.
 fn half_of(pair: u8, index: usize) -> u8
     ensures { λ r. ⌜ r ≡ bits pair (4 * (index % 2)) 4 ⌝ }
 {
     if index % 2 == 0 {
-        pair % HALF
+        pair % HALF_VALUES
     } else {
-        pair / HALF
+        pair / HALF_VALUES
     }
 }
 
-// The number at an index of such a table.
+// The number at an index of a packed table (forms 5).
 fn packed_at(pairs: &[u8; 512], index: usize) -> u8
     requires { ⌜ index < 1024 ⌝ }
     ensures { λ r. ⌜ r ≡ packedAt (now (pairs .entry)) index ⌝ }

@@ -1,4 +1,4 @@
--- `entries::table::packed_at` meets its contract: the byte at half the index, and of it the half that the index says.
+-- `entries::table::packed_at` meets its contract: it reads byte index / 2, and `half_of` takes the index's half.
 use borrow.Author.Needs.{needs}
 use Rattle.entries.specs.Needs.{packedAt}
 use Rattle.entries.proofs.table.packed_at.Statement.{statement}
