@@ -62,9 +62,10 @@ class Footprint(unittest.TestCase):
             "42 1,032 0 known.o".split(), ["1,024", ".rodata.f"], ["8", ".rodata.cst4"], "0 512 0 known.o".split(), ["512", ".rodata.g"]])
 
     def test_what_cannot_be_read(self):
-        text = self.folder / "text.a"
-        text.write_text("no archive\n")
-        for words in ([self.folder / "missing.a"], [text], [self.archive()], ["--check", self.folder / "missing.md", self.build(KNOWN)]):
+        text = self.folder / "text"
+        text.write_bytes(b"no archive, and no UTF-8: \xff\n")
+        known = self.build(KNOWN)
+        for words in ([self.folder / "missing.a"], [text], [self.archive()], ["--check", self.folder / "missing.md", known], ["--check", text, known]):
             with self.subTest(words[0]):
                 done = self.run_tool(*words)
                 self.assertEqual((done.stdout, done.returncode), ("", 2))
@@ -72,7 +73,8 @@ class Footprint(unittest.TestCase):
 
     def check(self, rows, heading="Read-only memory"):
         document = self.folder / "document.md"
-        document.write_text(f"## Other\n\n{RIGHT}\n## {heading}\n\n| Archive | Code | Constants | Writable |\n|---|---:|---:|---:|\n{rows}\n## Next\n\n{RIGHT}")
+        head = "| Archive | Code | Constants | Writable |\n|---|---:|---:|---:|\n"
+        document.write_text(f"## Other\n\n{RIGHT}\n## {heading}\n\n{head}{rows}\n## Next\n\n{RIGHT}")
         return self.run_tool("--check", document, self.build(KNOWN))
 
     def test_a_document_that_agrees(self):

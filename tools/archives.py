@@ -8,7 +8,6 @@ from pathlib import Path
 ROOT = Path(__file__).resolve().parent.parent
 ARCHIVES = [f"target/staticlib/lib{name}.a" for name in ("monitor", "steps", "signature")]
 
-MEMBER = re.compile(r"(\S.*):     file format (\S+)")
 SECTION = re.compile(r" *[0-9]+ (\S.*?) +([0-9a-f]{8,})  [0-9a-f]{8,}  [0-9a-f]{8,}  (.*)")
 
 

@@ -15,7 +15,7 @@ use Rattle.entries.proofs.Decoding.{rightsOf-bound}
 unfoldable pub pairOf : (ℕ → ℕ) → ℕ → ℕ
 pairOf f i = f (2 * i) + 16 * f (2 * i + 1)
 
--- where its numbers fit, a half of a byte has one of them, and the table gives f
+-- where the numbers of f fit half a byte, each half has its own, and the packed table gives f
 module _ (f : ℕ → ℕ) (fits : (i : ℕ) → f i < 16) where
   bits-pairOf : (i k : ℕ) → k < 2 → bits (pairOf f i) (4 * k) 4 ≡ f (2 * i + k)
   unfolding pairOf

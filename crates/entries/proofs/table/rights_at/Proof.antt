@@ -1,5 +1,5 @@
 -- `entries::table::rights_at` meets its contract: the array is `tabulate (pairOf pageCode) 512`, which is computed and compared at all 1,024 indices, and one
--- law of such tables carries the rule to the index.
+-- law of packed tables carries the rule to the index.
 use mathlib.Core.Path.{_∙_}
 use borrow.Author.Needs.{needs}
 use Rattle.words.specs.Lists.{tabulate}
