@@ -1,4 +1,4 @@
--- The numbers that entries 14 and 15 list come out of the definitions by computation.
+-- The numbers that entries 14 and 15 list come out of the definitions by computation, and so does where a packed table has them.
 use mathlib.Core.Path.{_≡_, refl}
 use mathlib.Core.List.{List, [], _∷_, map}
 use Prim.Native.Nat.{ℕ}
@@ -6,6 +6,7 @@ use Rattle.words.specs.Bounded.{num}
 use Rattle.entries.specs.Rights.{mayRead, mayWrite, mayExecute, rightsOf}
 use Rattle.entries.specs.Entries.{isPageForm, isLargeForm, l2Entry, codeOf, wordCode, pageCode}
 use Rattle.entries.specs.Written.{cacheable, pageBits, sectionBits, largeBits}
+use Rattle.entries.specs.Needs.{packedAt}
 
 -- entries 14: bits 9..0 of twelve words, and the numbers that the table of entries 22 has for them
 abbrev pub indices : List ℕ
@@ -17,6 +18,11 @@ values = 0x0 ∷ 0x6 ∷ 0x7 ∷ 0x8 ∷ 0x8 ∷ 0x8 ∷ 0x9 ∷ 0x9 ∷ 0xB ∷
 pub twelve-by-rule : map pageCode indices ≡ values
 unfolding pageCode wordCode codeOf l2Entry isPageForm isLargeForm rightsOf mayRead mayWrite mayExecute num
 twelve-by-rule = refl
+
+-- forms 5: the bytes 60 and 9D have the numbers 0, 6, D and 9
+pub unpacked : map (packedAt (0x60 ∷ 0x9D ∷ [])) (0 ∷ 1 ∷ 2 ∷ 3 ∷ []) ≡ (0x0 ∷ 0x6 ∷ 0xD ∷ 0x9 ∷ [])
+unfolding packedAt
+unpacked = refl
 
 -- entries 15: the rights that a map can grant
 abbrev pub granted : List ℕ

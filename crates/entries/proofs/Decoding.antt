@@ -13,7 +13,7 @@ use Rattle.words.specs.Words.{bits, word}
 use Rattle.words.proofs.Bounded.{and-true, and-true-left, any-none, any-avoids, any-hit, any-same, differ, same, below-or-above}
 use Rattle.words.proofs.Fields.{bits-low}
 use Rattle.entries.specs.Rights.{acceptedAP, mayRead, mayWrite, mayExecute, rightsOf}
-use Rattle.entries.specs.Entries.{Entry, fault, unaccepted, link, section, page, large, Level, l1, l2, sectionAP, sectionXN, pageAP, pageXN, largeXN, isLinkForm, isSectionForm, isPageForm, isLargeForm, l1Entry, l2Entry, runWords, runWord, isRun, entryAt, codeOf, wordCode, pageCode, isFault, isUnaccepted, isLink, isSection, isPage, isLarge, sectionBlocks, largeBlocks}
+use Rattle.entries.specs.Entries.{Entry, fault, unaccepted, link, section, page, large, Level, l1, l2, sectionAP, sectionXN, pageAP, pageXN, largeXN, isLinkForm, isSectionForm, isPageForm, isLargeForm, l1Entry, l2Entry, runWords, runWord, isRun, entryAt, codeOf, wordCode, wholeWord, pageCode, isFault, isUnaccepted, isLink, isSection, isPage, isLarge, sectionBlocks, largeBlocks}
 use Rattle.entries.specs.Needs.{hasPageBit}
 use Rattle.entries.proofs.Covers.{standsAlone}
 
@@ -151,6 +151,19 @@ pageCode-page low r n h e k =
     let ap : pageAP low ≡ n / 2 = omega arith in
     let xn : pageXN low ≡ n % 2 = omega arith in
     rw (ne-eqb (bits low 0 2) 0b01 (λ z. omega arith), wordCode-page low h, h, ap, xn) refl
+
+-- page rights fit half a byte
+pub pageCode-bound : (low : ℕ) → pageCode low < 16
+unfolding pageCode wordCode l2Entry codeOf
+pageCode-bound low =
+    each (eqb (bits low 0 2) 0b01) (eqb (bits low 0 2) 0b00) (isPageForm low) (isLargeForm low && true) _ _
+    (rightsOf-bound (pageAP low) (pageXN low)) (rightsOf-bound (pageAP low) (largeXN low)) where
+      each : (s t u v : Bool) (p b : ℕ) {q r : ℕ} → q < 8 → r < 8 → cond s wholeWord (codeOf (cond t fault (cond u (page p q) (cond v (large b r) unaccepted)))) < 16
+      each true t u v p b h k = omega arith
+      each false true u v p b h k = omega arith
+      each false false true v p b h k = omega arith
+      each false false false true p b h k = omega arith
+      each false false false false p b h k = omega arith
 
 -- the form and the rights of a page stand in its low twelve bits, those of a large page in its low sixteen
 pub isPageForm-low : (w : ℕ) → isPageForm (bits w 0 12) ≡ isPageForm w

@@ -1,15 +1,11 @@
--- Laws of packed tables: numbers below 16 are read back, and page rights are below 16.
+-- Laws of packed tables: numbers below 16 are read back.
 use mathlib.Core.Path.{_≡_, _∙_, ap}
-use mathlib.Core.Bool.{Bool, true, false, cond, _&&_}
 use Prim.Native.Nat.{ℕ, zero, suc, _+_, _*_, _/_, _%_, _<_}
 use native.Mathlib.Omega.{arith}
-use lib.Dec.{eqb}
 use Rattle.words.specs.Lists.{tabulate}
 use Rattle.words.specs.Words.{bits}
 use Rattle.words.proofs.Lists.{getD-tabulate}
-use Rattle.entries.specs.Entries.{fault, unaccepted, page, large, pageAP, pageXN, largeXN, isPageForm, isLargeForm, l2Entry, codeOf, wordCode, wholeWord, pageCode}
 use Rattle.entries.specs.Needs.{packedAt}
-use Rattle.entries.proofs.Decoding.{rightsOf-bound}
 
 -- byte i of the packed table of f
 unfoldable pub pairOf : (ℕ → ℕ) → ℕ → ℕ
@@ -33,16 +29,3 @@ module _ (f : ℕ → ℕ) (fits : (i : ℕ) → f i < 16) where
   unfolding packedAt
   packedAt-tabulate n i h =
       rw (getD-tabulate (pairOf f) n (i / 2) (omega arith)) (bits-pairOf (i / 2) (i % 2) (omega arith) ∙ ap f (omega arith))
-
--- page rights fit half a byte
-pub pageCode-bound : (low : ℕ) → pageCode low < 16
-unfolding pageCode wordCode l2Entry codeOf
-pageCode-bound low =
-    each (eqb (bits low 0 2) 0b01) (eqb (bits low 0 2) 0b00) (isPageForm low) (isLargeForm low && true) _ _
-    (rightsOf-bound (pageAP low) (pageXN low)) (rightsOf-bound (pageAP low) (largeXN low)) where
-      each : (s t u v : Bool) (p b : ℕ) {q r : ℕ} → q < 8 → r < 8 → cond s wholeWord (codeOf (cond t fault (cond u (page p q) (cond v (large b r) unaccepted)))) < 16
-      each true t u v p b h k = omega arith
-      each false true u v p b h k = omega arith
-      each false false true v p b h k = omega arith
-      each false false false true p b h k = omega arith
-      each false false false false p b h k = omega arith

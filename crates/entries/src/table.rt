@@ -1,6 +1,6 @@
 // The page rights of an L2 word by its bits 9..0, where these are enough.
 ghost use mathlib.Core.Path.{_≡_};
-ghost use Prim.Native.Nat.{_+_, _*_, _%_, _<_};
+ghost use Prim.Native.Nat.{_+_, _*_, _<_};
 ghost use Rattle.words.specs.Words.{bits};
 ghost use Rattle.entries.specs.Entries.{pageAP, pageCode, pageXN};
 ghost use Rattle.entries.specs.Needs.{packedAt};
@@ -27,23 +27,17 @@ const PAGE_RIGHTS: [u8; 512] =
 // Half a byte has sixteen values.
 const HALF_VALUES: u8 = 16;
 
-// The number of an index, in the byte that it shares with its neighbour.
-fn half_of(pair: u8, index: usize) -> u8
-    ensures { λ r. ⌜ r ≡ bits pair (4 * (index % 2)) 4 ⌝ }
-{
-    if index % 2 == 0 {
-        pair % HALF_VALUES
-    } else {
-        pair / HALF_VALUES
-    }
-}
-
 // The number at an index of a packed table (forms 5).
 fn packed_at(pairs: &[u8; 512], index: usize) -> u8
     requires { ⌜ index < 1024 ⌝ }
     ensures { λ r. ⌜ r ≡ packedAt (now (pairs .entry)) index ⌝ }
 {
-    half_of(pairs[index / 2], index)
+    let pair = pairs[index / 2];
+    if index % 2 == 0 {
+        pair % HALF_VALUES
+    } else {
+        pair / HALF_VALUES % HALF_VALUES
+    }
 }
 
 // The number at an index, which is bits 9..0 of a word. The language has no static data: the whole array is laid on the stack first.

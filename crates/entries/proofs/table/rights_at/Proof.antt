@@ -1,12 +1,13 @@
--- `entries::table::rights_at` meets its contract: the array is `tabulate (pairOf pageCode) 512`, which is computed and compared at all 1,024 indices, and one
--- law of packed tables carries the rule to the index.
+-- `entries::table::rights_at` meets its contract: the array is `tabulate (pairOf pageCode) 512`, which is computed and compared byte by byte, and one law of
+-- packed tables carries the rule to the index.
 use mathlib.Core.Path.{_∙_}
 use borrow.Author.Needs.{needs}
 use Rattle.words.specs.Lists.{tabulate}
 use Rattle.words.specs.Bounded.{num}
 use Rattle.entries.specs.Rights.{mayRead, mayWrite, mayExecute, rightsOf}
 use Rattle.entries.specs.Entries.{l2Entry, isPageForm, isLargeForm, codeOf, wordCode, pageCode}
-use Rattle.entries.proofs.Packing.{pairOf, packedAt-tabulate, pageCode-bound}
+use Rattle.entries.proofs.Decoding.{pageCode-bound}
+use Rattle.entries.proofs.Packing.{pairOf, packedAt-tabulate}
 use Rattle.entries.proofs.table.rights_at.Statement.{statement}
 use Rattle.entries.proofs.table.rights_at.Tie as tie
 
