@@ -65,7 +65,8 @@ class Footprint(unittest.TestCase):
         text = self.folder / "text"
         text.write_bytes(b"no archive, and no UTF-8: \xff\n")
         known = self.build(KNOWN)
-        for words in ([self.folder / "missing.a"], [text], [self.archive()], ["--check", self.folder / "missing.md", known], ["--check", text, known]):
+        common = self.build(KNOWN + ".comm g,64,8\n", "common.o")
+        for words in ([self.folder / "missing.a"], [text], [self.archive()], [common], ["--check", self.folder / "missing.md", known], ["--check", text, known]):
             with self.subTest(words[0]):
                 done = self.run_tool(*words)
                 self.assertEqual((done.stdout, done.returncode), ("", 2))

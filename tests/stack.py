@@ -214,6 +214,11 @@ class Stack(unittest.TestCase):
         document.write_text(f"## Other\n\n| `f` | 7 |\n\n## Stack\n\n| Call | Bytes |\n|---|---|\n{rows}\n## Next\n\n| `f` | 9 |\n")
         return self.run_tool("*f { sub rsp, 0x500; add rsp, 0x500; ret } *g { ret }", "--check", document)
 
+    def test_a_document_that_is_missing(self):
+        done = self.run_tool("*f { ret }", "--check", self.folder / "missing.md")
+        self.assertEqual((done.stdout, done.returncode), ("", 2))
+        self.assertIn("missing.md", done.stderr)
+
     def test_a_document_that_agrees(self):
         self.assertEqual(self.check("| `f` | 1,288 |\n| `g` | 8 |\n").returncode, 0)
 

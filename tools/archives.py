@@ -34,5 +34,9 @@ def needs(archives):
 
 def rows(document, heading):
     """The rows of the tables under this heading of a document, each as its cells."""
-    section = re.search(rf"^## {heading}\n(.*?)(?=^## |\Z)", Path(document).read_text(encoding="utf8"), re.M | re.S)
+    try:
+        text = Path(document).read_text(encoding="utf8")
+    except (OSError, UnicodeDecodeError) as problem:
+        raise Refused(f"{document}: {problem}") from problem
+    section = re.search(rf"^## {heading}\n(.*?)(?=^## |\Z)", text, re.M | re.S)
     return [[cell.strip() for cell in row.split("|")] for row in re.findall(r"^\|(.*)\|$", section[1] if section else "", re.M)]
