@@ -27,7 +27,8 @@ const PAGE_RIGHTS: [u8; 512] =
 // Half a byte has sixteen values.
 const HALF_VALUES: u8 = 16;
 
-// The number at an index of a packed table (forms 5).
+// The number at an index of a packed table (forms 5). The last remainder changes nothing in a byte: it is there since a proof is told no bound of an
+// element of a lent array.
 fn packed_at(pairs: &[u8; 512], index: usize) -> u8
     requires { ⌜ index < 1024 ⌝ }
     ensures { λ r. ⌜ r ≡ packedAt (now (pairs .entry)) index ⌝ }
