@@ -50,7 +50,7 @@ no-page : (w : ℕ) → bits w 1 1 ≢ 1 → isPageForm w ≡ false
 unfolding isPageForm
 no-page w h = rw (ne-eqb (bits w 1 1) 1 h)
 
-no-large : (w : ℕ) → bits w 0 2 ≢ 0b01 → isLargeForm w ≡ false
+pub no-large : (w : ℕ) → bits w 0 2 ≢ 0b01 → isLargeForm w ≡ false
 unfolding isLargeForm
 no-large w h = rw (ne-eqb (bits w 0 2) 0b01 h)
 
@@ -214,7 +214,23 @@ sectionRights-low w = rw (bits-low w 15 1 20 (omega arith), bits-low w 10 2 20 (
 
 -- Positions
 
--- at both levels bits 1..0 say that a word is a fault
+-- bits 1..0 tell a fault at both levels
+pub isFault-bits : (v : Level) (mem : List ℕ) (j : ℕ) → eqb (bits (word mem (4 * j)) 0 2) 0b00 ≡ isFault (entryAt v mem j)
+unfolding entryAt l1Entry l2Entry isFault
+isFault-bits l1 mem j = (let w = word mem (4 * j) in first (eqb (bits w 0 2) 0b00) (isLinkForm w) (isSectionForm w) (bits w 10 22) (sectionBlocks * bits w 20 12) (rightsOf (sectionAP w) (sectionXN w))) where
+  first : (t a b : Bool) (p q r : ℕ) → t ≡ isFault (cond t fault (cond a (link p) (cond b (section q r) unaccepted)))
+  first true a b p q r = refl
+  first false true b p q r = refl
+  first false false true p q r = refl
+  first false false false p q r = refl
+isFault-bits l2 mem j = (let w = word mem (4 * j) in second (eqb (bits w 0 2) 0b00) (isPageForm w) (isLargeForm w && isRun mem j) (bits w 12 20) (rightsOf (pageAP w) (pageXN w)) (largeBlocks * bits w 16 16 + j % runWords) (rightsOf (pageAP w) (largeXN w))) where
+  second : (t a b : Bool) (p q r x : ℕ) → t ≡ isFault (cond t fault (cond a (page p q) (cond b (large r x) unaccepted)))
+  second true a b p q r x = refl
+  second false true b p q r x = refl
+  second false false true p q r x = refl
+  second false false false p q r x = refl
+
+-- so a word with 00 is one
 pub entryAt-fault : (v : Level) (mem : List ℕ) (j : ℕ) → bits (word mem (4 * j)) 0 2 ≡ 0b00 → fault ≡ entryAt v mem j
 unfolding entryAt l1Entry l2Entry
 entryAt-fault l1 mem j h = rw h
@@ -359,7 +375,7 @@ module _ (mem : List ℕ) (j : ℕ) where
   unfolding isRun
   isRun-broken k l h = ap not (any-hit (λ k. neqb (runWord mem j k) (word mem (4 * j))) runWords k l (differ _ _ h))
 
-  isRun-word : isRun mem j ≡ true → (k : ℕ) → k < runWords → runWord mem j k ≡ word mem (4 * j)
+  pub isRun-word : isRun mem j ≡ true → (k : ℕ) → k < runWords → runWord mem j k ≡ word mem (4 * j)
   unfolding isRun
   isRun-word h k l =
       eqb-true _ _ (not-false _ (any-none (λ k. neqb (runWord mem j k) (word mem (4 * j))) runWords (not-true _ h) k l))

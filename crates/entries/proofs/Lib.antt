@@ -1,5 +1,6 @@
 pub mod Cases
 pub mod Covers
 pub mod Decoding
+pub mod MemoryKinds
 mod Packing
 pub mod RoundTrip

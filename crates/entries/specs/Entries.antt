@@ -7,7 +7,7 @@ use Rattle.words.specs.Bounded.{neqb, among, any}
 use Rattle.words.specs.Words.{bits, word}
 use Rattle.entries.specs.Rights.{acceptedAP, rightsOf}
 
--- entries 4: the five kinds of entry, or not accepted. A link has the address of its L2 table / 1,024, a section its first block and its rights,
+-- entries 4: the five sorts of entry, or not accepted. A link has the address of its L2 table / 1,024, a section its first block and its rights,
 -- a page its block and its rights, an entry of a large page its own one of the page's blocks and its rights
 pub data Entry : Type 0 where
   fault : Entry

@@ -13,7 +13,8 @@ ghost use mathlib.Core.Logic.{_≢_};
 ghost use Prim.Native.Nat.{_+_, _*_, _%_};
 ghost use Rattle.words.specs.Words.{bits, word};
 ghost use Rattle.entries.specs.Rights.{rightsOf};
-ghost use Rattle.entries.specs.Entries.{entryAt, isLargeForm, isLinkForm, isPageForm, isRun, isSectionForm, isUnaccepted, l1, l1Entry, l2, largeBlocks, largeXN, pageAP, pageXN, runWords, sectionAP, sectionBlocks, sectionXN, sectionZeros, wordCode};
+ghost use Rattle.entries.specs.Entries.{entryAt, isFault, isLargeForm, isLinkForm, isPageForm, isRun, isSectionForm, isUnaccepted, l1, l1Entry, l2, largeBlocks, largeXN, pageAP, pageXN, runWords, sectionAP, sectionBlocks, sectionXN, sectionZeros, wordCode};
+ghost use Rattle.entries.specs.Entries as specified;
 ghost use Rattle.entries.specs.Meaning.{levelOf, meaning};
 ghost use Rattle.entries.specs.Needs.{HoldsRun, HoldsWord, hasPageBit};
 
@@ -245,6 +246,14 @@ pub fn l1_entry_at(mem: &[u8], j: usize) -> Entry
     ensures { λ r. ⌜ meaning r ≡ entryAt l1 (now (mem .entry)) j ⌝ }
 {
     l1_entry(words::word(mem, WORD_BYTES * j))
+}
+
+// Word j of the memory, read as an entry of a table of whichever level, is a fault (entries 5).
+pub fn is_fault_at(mem: &[u8], j: usize) -> bool
+    requires { ⌜ HoldsWord (now mem) j ⌝ }
+    ensures { λ r. ⌜ ((v : specified.Level) → r ≡ isFault (entryAt v (now (mem .entry)) j)) ⌝ }
+{
+    words::bits(words::word(mem, WORD_BYTES * j), 0, 2) == FAULT_FORM
 }
 
 // Word j of the memory, read as an entry of an L2 table. By `entry_of`, which is then compiled once, and not into the loops that call `entry_at`.

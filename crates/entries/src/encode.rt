@@ -1,12 +1,9 @@
 // The words that are written: place, access bits and memory kind (entries 15, entries 16).
 ghost use mathlib.Core.Path.{_≡_};
-ghost use Prim.Native.Nat.{ℕ, _<_, _^_};
+ghost use Prim.Native.Nat.{ℕ, _<_, _≤_, _^_};
 ghost use Rattle.entries.specs.Entries.{large, link, page, section};
-ghost use Rattle.entries.specs.Written.{largeBits, pageBits, sectionBits, wordOf, writtenAP, writtenXN};
+ghost use Rattle.entries.specs.Written.{kindBits, largeBits, pageBits, sectionBits, wordOf, writtenAP, writtenXN};
 ghost use Rattle.entries.specs.Needs.{IsBlock, IsLargeStart, IsSectionStart, IsTablePlace};
-
-// The memory kind of all that is written: C and B set.
-pub const CACHEABLE: u32 = 0b11;
 
 const READ_WRITE_AP: u32 = 0b011;
 
@@ -23,7 +20,7 @@ const PAGE: u32 = 0b10;
 
 const LARGE: u32 = 0b01;
 
-// The lowest bit of each field. B and C, the bits of TEX, and S and nG stand side by side.
+// The weight of each field's lowest bit. B and C, the bits of TEX, and S and nG stand side by side.
 const B: u32 = 0x4;
 
 const PAGE_AP: u32 = 0x10;
@@ -67,25 +64,29 @@ fn written_xn(rights: u32) -> u32
     1 - words::bits(rights, 2, 1)
 }
 
+// The bits of a memory kind at their places, by the weights of the lowest bit of TEX and of S; nG stands next to S.
+fn kind_bits(kind: u32, tex: u32, s: u32) -> u32
+    requires { ⌜ (tex ≤ 2 ^ 12) × (s ≤ 2 ^ 16) ⌝ }
+    ensures { λ r. ⌜ r ≡ kindBits tex s kind ⌝ }
+{
+    let tex_bits = tex * words::bits(kind, 2, 3);
+    let s_bit = s * words::bits(kind, 5, 1);
+    let ng_bit = 2 * s * words::bits(kind, 6, 1);
+    B * words::bits(kind, 0, 2) + tex_bits + s_bit + ng_bit
+}
+
 // The low bits of a page's word.
 fn page_bits(kind: u32, rights: u32) -> u32
     ensures { λ r. ⌜ (r ≡ pageBits kind rights) × (r < 2 ^ 12) ⌝ }
 {
-    B * words::bits(kind, 0, 2)
-        + PAGE_TEX * words::bits(kind, 2, 3)
-        + PAGE_S * words::bits(kind, 5, 2)
-        + PAGE_AP * written_ap(rights)
-        + PAGE
-        + written_xn(rights)
+    kind_bits(kind, PAGE_TEX, PAGE_S) + PAGE_AP * written_ap(rights) + PAGE + written_xn(rights)
 }
 
 // The low bits of a large page's word: AP, S and nG stand as in a page's.
 fn large_bits(kind: u32, rights: u32) -> u32
     ensures { λ r. ⌜ (r ≡ largeBits kind rights) × (r < 2 ^ 16) ⌝ }
 {
-    B * words::bits(kind, 0, 2)
-        + LARGE_TEX * words::bits(kind, 2, 3)
-        + PAGE_S * words::bits(kind, 5, 2)
+    kind_bits(kind, LARGE_TEX, PAGE_S)
         + PAGE_AP * written_ap(rights)
         + LARGE_XN * written_xn(rights)
         + LARGE
@@ -95,9 +96,7 @@ fn large_bits(kind: u32, rights: u32) -> u32
 fn section_bits(kind: u32, rights: u32) -> u32
     ensures { λ r. ⌜ (r ≡ sectionBits kind rights) × (r < 2 ^ 18) ⌝ }
 {
-    B * words::bits(kind, 0, 2)
-        + SECTION_TEX * words::bits(kind, 2, 3)
-        + SECTION_S * words::bits(kind, 5, 2)
+    kind_bits(kind, SECTION_TEX, SECTION_S)
         + SECTION_AP * written_ap(rights)
         + SECTION_XN * written_xn(rights)
         + SECTION

@@ -1,8 +1,8 @@
 -- Laws of bounded tests: when some number below a bound has a property, and when none has.
 use mathlib.Core.Path.{_≡_, refl, sym, _∙_, ap, ap₂}
 use mathlib.Core.Logic.{_⊎_, inl, inr, ⊎-elim}
-use mathlib.Core.Bool.{Bool, true, false, not, _&&_, _||_, false≢true, or-true}
-use Prim.Native.Nat.{ℕ, zero, suc, _+_, _<_, _≤_}
+use mathlib.Core.Bool.{Bool, true, false, not, _&&_, _||_, false≢true, or-true, or-assoc}
+use Prim.Native.Nat.{ℕ, zero, suc, _+_, _*_, _<_, _≤_}
 use native.Mathlib.Nat.{eq-or-lt-of-le, le-of-suc-le-suc}
 use native.Mathlib.Decide.{decLt}
 use native.Mathlib.Numerals.{add-one}
@@ -138,6 +138,15 @@ pub any-same : (p q : ℕ → Bool) (n : ℕ) → ((i : ℕ) → i < n → p i �
 unfolding any
 any-same p q zero h = refl
 any-same p q (suc n) h = ap₂ _||_ (any-same p q n (λ i l. h i (omega arith))) (h n (omega arith))
+
+-- two at a time
+pub any-pairs : (q : ℕ → Bool) (n : ℕ) → any n (λ i. q (2 * i) || q (2 * i + 1)) ≡ any (2 * n) q
+unfolding any
+any-pairs q zero = refl
+any-pairs q (suc n) =
+    let e : 2 * suc n ≡ suc (suc (2 * n)) = omega arith in
+    let next : 2 * n + 1 ≡ suc (2 * n) = omega arith in
+    rw (e, ← next, any-pairs q n) (sym (or-assoc (any (2 * n) q) (q (2 * n)) (q (2 * n + 1))))
 
 pub any-or : (n : ℕ) (p q : ℕ → Bool) → any n (λ i. p i || q i) ≡ (any n p || any n q)
 any-or n p q = both-ways (any n (λ i. p i || q i)) (any n p || any n q) there back where

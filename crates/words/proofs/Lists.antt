@@ -7,7 +7,7 @@ use native.Mathlib.Nat.{add-zero, add-suc, suc-add}
 use native.Mathlib.Numerals.{add-one}
 use native.Mathlib.Omega.{arith}
 use lib.ListN.{length, getD, take, drop, set, length-append, length-take, length-drop, length-set, replicate, length-replicate, List·getD-append}
-use lib.Seq.{getD-take, getD-drop, getD-at, take-suc-set, take-all, take-suc, length-take-le, ext-getD, sets, sets-eq}
+use lib.Seq.{getD-take, getD-drop, getD-at, getD-set-same, getD-set-other, take-suc-set, take-all, take-suc, length-take-le, ext-getD, sets, sets-eq}
 use Rattle.words.specs.Lists.{part, tabulate, putList}
 use Rattle.words.proofs.Bounded.{last-or-below}
 
@@ -76,6 +76,28 @@ stores xs a (y ∷ ys) = stores (set xs a y) (suc a) ys
 -- what is stored, between what stands before and behind it
 pub putList-between : (xs : List ℕ) (a : ℕ) (ys : List ℕ) → a + length ys ≤ length xs → putList xs a ys ≡ take a xs ++ ys ++ drop (a + length ys) xs
 putList-between xs a ys h = stores xs a ys ∙ sets-eq ys xs a h
+
+-- an element that is not stored over
+pub getD-putList-other : (xs : List ℕ) (a : ℕ) (ys : List ℕ) (i : ℕ) → (a ≤ i → a + length ys ≤ i) → getD (putList xs a ys) i 0 ≡ getD xs i 0
+unfolding putList
+getD-putList-other xs a [] i o = refl
+getD-putList-other xs a (y ∷ ys) i o = getD-putList-other (set xs a y) (suc a) ys i (λ h. omega (arith, o (omega arith))) ∙ getD-set-other xs a i y 0 (λ q. omega (arith, o (omega arith)))
+
+-- an element that is
+pub getD-putList-in : (xs : List ℕ) (a : ℕ) (ys : List ℕ) (i : ℕ) → a + length ys ≤ length xs → i < length ys → getD (putList xs a ys) (a + i) 0 ≡ getD ys i 0
+unfolding putList
+getD-putList-in xs a [] i h l = let z : ⊥ = omega arith in absurd z
+getD-putList-in xs a (y ∷ ys) zero h l =
+    rw (add-zero a) (getD-putList-other (set xs a y) (suc a) ys a (λ g. omega arith) ∙ getD-set-same xs a y 0 (omega arith))
+getD-putList-in xs a (y ∷ ys) (suc i) h l =
+    rw (add-suc a i, ← suc-add a i) (getD-putList-in (set xs a y) (suc a) ys i (rw (length-set xs a y) (omega arith)) (omega arith))
+
+-- the part that was stored
+pub part-putList : (xs : List ℕ) (a : ℕ) (ys : List ℕ) → a + length ys ≤ length xs → part (putList xs a ys) a (length ys) ≡ ys
+part-putList xs a ys h =
+    let long : length (part (putList xs a ys) a (length ys)) ≡ length ys = length-part (putList xs a ys) a (length ys) (rw (length-putList xs a ys) h) in
+    ext-getD 0 (part (putList xs a ys) a (length ys)) ys long
+    (λ i l. let l′ : i < length ys = rw long at l in getD-part (putList xs a ys) a (length ys) i l′ ∙ getD-putList-in xs a ys i h l′)
 
 -- A loop that fills an array of n elements
 

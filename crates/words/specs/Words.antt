@@ -1,4 +1,4 @@
--- Words of 32 bits in a list of bytes (RULES: memory).
+-- Words of 32 bits, and numbers of 16, in a list of bytes; bits of a number (RULES: memory, ledger).
 use mathlib.Core.List.{List}
 use Prim.Native.Nat.{ℕ, _+_, _*_, _/_, _%_, _^_}
 use lib.ListN.{getD, set}
@@ -6,6 +6,14 @@ use lib.ListN.{getD, set}
 -- the n bits of v from bit lo on
 abbrev pub bits : ℕ → ℕ → ℕ → ℕ
 bits v lo n = v / 2 ^ lo % 2 ^ n
+
+-- v with its n bits from bit lo on replaced by the lowest n bits of u
+unfoldable pub putBits : ℕ → ℕ → ℕ → ℕ → ℕ
+putBits v lo n u = 2 ^ (n + lo) * (v / 2 ^ (n + lo)) + (2 ^ lo * (u % 2 ^ n) + v % 2 ^ lo)
+
+-- ledger 11: the number whose two bytes stand from place a on, the lower first; a byte behind the end of the list counts as 0
+unfoldable pub half : List ℕ → ℕ → ℕ
+half xs a = getD xs a 0 + 2 ^ 8 * getD xs (a + 1) 0
 
 -- memory 4: the word whose four bytes stand from place a on; a byte behind the end of the list counts as 0
 unfoldable pub word : List ℕ → ℕ → ℕ

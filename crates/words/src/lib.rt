@@ -1,10 +1,10 @@
-// Words of 32 bits in lent bytes, and the mathematics of lists and bounded sums under all layers.
+// Words of 32 bits and numbers of 16 in lent bytes, and the mathematics of lists and bounded sums under all layers.
 ghost use mathlib.Core.Path.{_≡_};
 ghost use Prim.Native.Nat.{_+_, _*_, _^_, _<_, _≤_};
 ghost use lib.ListN.{length};
 ghost use Rattle.words.specs.Bounded.{among};
 ghost use Rattle.words.specs.Lists.{putList};
-ghost use Rattle.words.specs.Words.{bits, word, putWord};
+ghost use Rattle.words.specs.Words.{bits, half, word, putWord};
 
 pub const WORD_BYTES: usize = 4;
 
@@ -13,6 +13,21 @@ fn word_of(a: u8, b: u8, c: u8, d: u8) -> u32
     ensures { λ r. ⌜ r ≡ a + 2 ^ 8 * b + 2 ^ 16 * c + 2 ^ 24 * d ⌝ }
 {
     a as u32 + b as u32 * 0x100 + c as u32 * 0x10000 + d as u32 * 0x1000000
+}
+
+// The number of two bytes, the lower first.
+fn half_of(a: u8, b: u8) -> u32
+    ensures { λ r. ⌜ r ≡ a + 2 ^ 8 * b ⌝ }
+{
+    a as u32 + b as u32 * 0x100
+}
+
+// The number of two bytes at a place.
+pub fn half(s: &[u8], at: usize) -> u32
+    requires { ⌜ at + 2 ≤ length (now s) ⌝ }
+    ensures { λ r. ⌜ r ≡ half (now (s .entry)) at ⌝ }
+{
+    half_of(s[at], s[at + 1])
 }
 
 // The word at a place.
