@@ -13,7 +13,7 @@ use Rattle.words.proofs.Bounded.{any-avoids, false-unless, and-true, differ, sa
 use Rattle.signature.specs.Signed.{misfitImage}
 use Rattle.entries.specs.Entries.{Entry, fault, Level, l1, l2, blockTables, isFault, rights, placeFirst, coverFirst, placeBlocks, coverBlocks}
 use Rattle.entries.specs.Rights.{write, execute, allows, unlawfulRights}
-use Rattle.rules.specs.Store.{counterLimit, Store, blocks, base, Counter, writable, executable, linked, someCounter, typeOf, counter, someBlock, misfit}
+use Rattle.rules.specs.Store.{counterLimit, kindCount, Store, blocks, base, Counter, writable, executable, linked, someCounter, typeOf, counter, someBlock, misfitStored}
 use Rattle.rules.specs.Tables.{typeCode, tableBlocks, tableEntries, Form, sections, level, targetBlocks, mappingWords, mapping, takes, tableEntry, grants, gives, gain, astray}
 use Rattle.rules.specs.General.{tableOutside, misaligned, otherType, holder, executableHolder, Change, added, removed, endValue, endsBelow, overruns, someOverrun, occupied}
 use Rattle.rules.specs.Map.{unfitTarget, clashingTarget, unsignedTarget, mapRefusals, mapOutcome}
@@ -29,7 +29,7 @@ use Rattle.rules.proofs.Passing.{settle-answer}
 
 -- the blocks from p on could be a table of this level: 1, 2 and 3 hold nothing against them
 pub record TablePlace (v : Level) (s : Store) (p : ℕ) : Type 0 where
-  pub fits : misfit s (base s) ≡ false
+  pub fits : misfitStored s ≡ false
   pub low : base s ≤ p
   pub high : p + tableBlocks v ≤ base s + blocks s
   pub aligned : p % tableBlocks v ≡ 0
@@ -109,31 +109,41 @@ reads-give-nothing f t r l linked k b = rw (mapping-grants t r k f .2) refl
 -- the index is a multiple of the words of a mapping
 module _ (f : Form) {s : Store} {p : ℕ} (i : ℕ) (whole : i % mappingWords f ≡ 0) where
   -- where a map finds faults, what follows 8 in its list decides
-  pub map-from-9 : (golden : List ℕ) (t r : ℕ) {k : ℕ} → Vacant f s p i → i < tableEntries (level f) → misfitImage golden ≡ false → t % targetBlocks f ≡ 0
-      → Decides (drop 10 (mapRefusals f golden s p i t r)) k → mapOutcome f golden s p i t r .answer ≡ k
+  pub map-from-9 : (golden : List ℕ) (t r number : ℕ) {k : ℕ} → Vacant f s p i → i < tableEntries (level f) → number < kindCount → misfitImage golden ≡ false → t % targetBlocks f ≡ 0
+      → Decides (drop 11 (mapRefusals f golden s p i t r number)) k → mapOutcome f golden s p i t r number .answer ≡ k
   unfolding mapOutcome
-  map-from-9 golden t r room l image target-aligned d =
+  map-from-9 golden t r number room l named image target-aligned d =
       let table = room .ready in
       let at = table .placed in
       settle-answer _ _ _
       ∙ decides (past (at .fits) (past image (past (in-region at) (past (at-multiple at) (past (same _ _ target-aligned) (past (same _ _ whole) (past (lt-leb (tableEntries (level f)) i l)
-      (past (right-types table) (past (no-executable table) (past (unoccupied room) d))))))))))
+      (past (lt-leb kindCount number named) (past (right-types table) (past (no-executable table) (past (unoccupied room) d)))))))))))
 
   -- rights 0 or 1 are granted wherever table, holder, entry and target are right
-  pub map-accepted : {golden : List ℕ} {t r : ℕ} → Vacant f s p i → i < tableEntries (level f) → ReadTarget f golden s t r → mapOutcome f golden s p i t r .answer ≡ 0
+  pub map-accepted : {golden : List ℕ} {t r : ℕ} (number : ℕ) → Vacant f s p i → i < tableEntries (level f) → number < kindCount → ReadTarget f golden s t r
+      → mapOutcome f golden s p i t r number .answer ≡ 0
   unfolding unfitTarget clashingTarget unsignedTarget
-  map-accepted {golden} {t} {r} room l target =
+  map-accepted {golden} {t} {r} number room l named target =
       let (lawful, no-write, no-execute) = reads-only r (target .reads) in
-      map-from-9 golden t r room l (target .image) (target .aligned)
+      map-from-9 golden t r number room l named (target .image) (target .aligned)
       (past lawful
       (past (rw (inside (base s) (blocks s) t (targetBlocks f) (target .low) (target .high), no-write, no-execute) refl)
       (past (rw (no-write, no-execute) refl) (past (rw no-execute refl) (past (nothing-gained added s _ _ (λ c k b _. reads-give-nothing f t r (target .reads) c k b)) none)))))
 
-  pub map-beyond : (golden : List ℕ) (t r : ℕ) → TablePlace (level f) s p → misfitImage golden ≡ false → t % targetBlocks f ≡ 0 → tableEntries (level f) ≤ i
-      → mapOutcome f golden s p i t r .answer ≡ 4
+  pub map-beyond : (golden : List ℕ) (t r number : ℕ) → TablePlace (level f) s p → misfitImage golden ≡ false → t % targetBlocks f ≡ 0 → tableEntries (level f) ≤ i
+      → mapOutcome f golden s p i t r number .answer ≡ 4
   unfolding mapOutcome
-  map-beyond golden t r at image target-aligned h =
+  map-beyond golden t r number at image target-aligned h =
       settle-answer _ _ _ ∙ decides (past (at .fits) (past image (past (in-region at) (past (at-multiple at) (past (same _ _ target-aligned) (past (same _ _ whole) (here (le-leb (tableEntries (level f)) i h))))))))
+
+  -- 4 also for a number that no kind has, whatever the table's type
+  pub map-no-kind : (golden : List ℕ) (t r number : ℕ) → TablePlace (level f) s p → misfitImage golden ≡ false → t % targetBlocks f ≡ 0 → i < tableEntries (level f) → kindCount ≤ number
+      → mapOutcome f golden s p i t r number .answer ≡ 4
+  unfolding mapOutcome
+  map-no-kind golden t r number at image target-aligned l h =
+      settle-answer _ _ _
+      ∙ decides (past (at .fits) (past image (past (in-region at) (past (at-multiple at) (past (same _ _ target-aligned) (past (same _ _ whole) (past (lt-leb (tableEntries (level f)) i l)
+      (here (le-leb kindCount number h)))))))))
 
   -- where the table is ready, what follows 7 in the list of unmap decides
   pub unmap-from-8 : {k : ℕ} → Ready (level f) s p i → i < tableEntries (level f) → Decides (drop 7 (unmapRefusals f s p i)) k → unmapOutcome f s p i .answer ≡ k
@@ -159,9 +169,9 @@ module _ (f : Form) {s : Store} {p : ℕ} (i : ℕ) (whole : i % mappingWords f 
 
 -- the index is no multiple of the words of a mapping
 module _ (f : Form) {s : Store} {p : ℕ} (i : ℕ) (broken : i % mappingWords f ≢ 0) where
-  pub map-misaligned : (golden : List ℕ) (t r : ℕ) → TablePlace (level f) s p → misfitImage golden ≡ false → t % targetBlocks f ≡ 0 → mapOutcome f golden s p i t r .answer ≡ 3
+  pub map-misaligned : (golden : List ℕ) (t r number : ℕ) → TablePlace (level f) s p → misfitImage golden ≡ false → t % targetBlocks f ≡ 0 → mapOutcome f golden s p i t r number .answer ≡ 3
   unfolding mapOutcome
-  map-misaligned golden t r at image target-aligned =
+  map-misaligned golden t r number at image target-aligned =
       settle-answer _ _ _ ∙ decides (past (at .fits) (past image (past (in-region at) (past (at-multiple at) (past (same _ _ target-aligned) (here (differ _ _ broken)))))))
 
   pub unmap-misaligned : TablePlace (level f) s p → unmapOutcome f s p i .answer ≡ 3

@@ -10,7 +10,7 @@ use lib.ListN.{length}
 use borrow.Author.Tests.{leb-false}
 use Rattle.words.specs.Words.{bits, word}
 use Rattle.entries.specs.Entries.{Entry, link, section, page, large, Level, l1, l2, runWords, entryAt, isFault, isUnaccepted, rights, placeFirst, coverFirst, placeBlocks, coverBlocks, blockTables}
-use Rattle.entries.specs.Written.{wordOf, cacheable}
+use Rattle.entries.specs.Written.{wordOf, kindless}
 use Rattle.entries.proofs.RoundTrip.{Encodable}
 use Rattle.rules.specs.Refusals.{answerOf}
 use Rattle.rules.specs.Outcomes.{leaving}
@@ -33,16 +33,16 @@ pub record Entered (v : Level) (s after : Store) (p i m : ℕ) (x : ℕ → Entr
   pub others : (j : ℕ) → (wordIndex s p i ≤ j → wordIndex s p i + m ≤ j) → word (after .memory) (4 * j) ≡ word (s .memory) (4 * j)
   pub same-length : length (after .memory) ≡ length (s .memory)
 
-writes-entries : (v : Level) (s : Store) (p i m : ℕ) (x : ℕ → Entry) → Encodable v (wordIndex s p i) m x → i % blockWords + m ≤ blockWords → Fit (base s) (blocks s) s → tableOutside v s p ≡ false → beyondTable v i ≡ false
-    → (led : List ℕ) → Entered v s (record { memory = entered s p i m x .memory; ledger = led }) p i m x
-writes-entries v s p i m x written whole fit t2 t4 led =
+writes-entries : (kind : ℕ) (v : Level) (s : Store) (p i m : ℕ) (x : ℕ → Entry) → Encodable v (wordIndex s p i) m x → i % blockWords + m ≤ blockWords → Fit (base s) (blocks s) s → tableOutside v s p ≡ false → beyondTable v i ≡ false
+    → (led : List ℕ) → Entered v s (record { memory = entered kind s p i m x .memory; ledger = led }) p i m x
+writes-entries kind v s p i m x written whole fit t2 t4 led =
     let a = wordIndex s p i in
     let (low, high) = within (base s) (blocks s) p (tableBlocks v) t2 in
     let small = leb-false (tableEntries v) i t4 in
     record {
-      decodes = entryAt-fill v (s .memory) a cacheable x m written (omega arith);
-      others = word-fill-other (s .memory) a (λ k. wordOf cacheable (x k)) m;
-      same-length = length-fill (s .memory) a (λ k. wordOf cacheable (x k)) m;
+      decodes = entryAt-fill v (s .memory) a kind x m written (omega arith);
+      others = word-fill-other (s .memory) a (λ k. wordOf kind (x k)) m;
+      same-length = length-fill (s .memory) a (λ k. wordOf kind (x k)) m;
     }
 
 -- an accepted entry whose place is in the region lets a walk on
@@ -78,69 +78,69 @@ walk-entry B n mem table addr p i e through at small inside is accepted near no-
 
 -- Map
 
-module _ (f : Form) (golden : List ℕ) (s : Store) (p i t r : ℕ) (accepted : mapOutcome f golden s p i t r .answer ≡ 0) where
-  settled : (Mappable f golden s p i t r) × (mapOutcome f golden s p i t r .after ≡ mapAccepted f s p i t r .store)
+module _ (f : Form) (golden : List ℕ) (s : Store) (p i t r number : ℕ) (accepted : mapOutcome f golden s p i t r number .answer ≡ 0) where
+  settled : (Mappable f golden s p i t r) × (mapOutcome f golden s p i t r number .after ≡ mapAccepted f s p i t r number .store)
   unfolding mapOutcome
   settled =
-      let rs = mapRefusals f golden s p i t r in
-      let (zero-is, after-is, _) = settle-accepted s (mapAccepted f s p i t r) (answerOf rs) accepted in
-      (mappable f golden s p i t r (passed-front rs (passed rs (omega arith) zero-is)), after-is)
+      let rs = mapRefusals f golden s p i t r number in
+      let (zero-is, after-is, _) = settle-accepted s (mapAccepted f s p i t r number) (answerOf rs) accepted in
+      (mappable f golden s p i t r number (passed-front rs (passed rs (omega arith) zero-is)), after-is)
 
-  pub map-enters : Entered (level f) s (mapOutcome f golden s p i t r .after) p i (mappingWords f) (mapping f t r)
+  pub map-enters : Entered (level f) s (mapOutcome f golden s p i t r number .after) p i (mappingWords f) (mapping f t r)
   map-enters =
       let (can, after-is) = settled in
-      rw after-is (writes-entries (level f) s p i (mappingWords f) (mapping f t r) (can .written) (words-in-block f i (can .aligned)) (can .region) (can .table-inside) (can .index-inside) _)
+      rw after-is (writes-entries _ (level f) s p i (mappingWords f) (mapping f t r) (can .written) (words-in-block f i (can .aligned)) (can .region) (can .table-inside) (can .index-inside) _)
 
 -- a walk to the section that was mapped
-pub section-grants : (golden : List ℕ) (s : Store) (p i t r : ℕ) (accepted : mapOutcome sections golden s p i t r .answer ≡ 0) (addr : ℕ) → bits addr 20 12 ≡ i
-    → walk (base s) (blocks s) (mapOutcome sections golden s p i t r .after .memory) p addr ≡ ends l1 (t + addr / blockBytes % targetBlocks sections) r
+pub section-grants : (golden : List ℕ) (s : Store) (p i t r number : ℕ) (accepted : mapOutcome sections golden s p i t r number .answer ≡ 0) (addr : ℕ) → bits addr 20 12 ≡ i
+    → walk (base s) (blocks s) (mapOutcome sections golden s p i t r number .after .memory) p addr ≡ ends l1 (t + addr / blockBytes % targetBlocks sections) r
 unfolding walk follow isUnaccepted isFault coverFirst placeFirst coverBlocks placeBlocks rights
-section-grants golden s p i t r accepted addr at =
-    let can = settled sections golden s p i t r accepted .0 in
-    let is = rw add-zero at (map-enters sections golden s p i t r accepted .decodes 0 (omega arith)) in
-    let after = mapOutcome sections golden s p i t r .after .memory in
+section-grants golden s p i t r number accepted addr at =
+    let can = settled sections golden s p i t r number accepted .0 in
+    let is = rw add-zero at (map-enters sections golden s p i t r number accepted .decodes 0 (omega arith)) in
+    let after = mapOutcome sections golden s p i t r number .after .memory in
     rw (at, is) (passes-on l1 (base s) (blocks s) (section t r) (endsAt l1 addr (section t r)) refl (target-inside sections golden s p i t r (can .fits-target) (can .target-aligned) 0 (omega arith)) refl)
 
 -- a walk, through a link to its table, to the page that was mapped
-pub page-grants : (golden : List ℕ) (s : Store) (p i t r : ℕ) (accepted : mapOutcome pages golden s p i t r .answer ≡ 0) (table addr : ℕ)
-    → entryAt l1 (mapOutcome pages golden s p i t r .after .memory) (wordIndex s table (bits addr 20 12)) ≡ linkTo p (i / l2Words) → bits addr 12 8 ≡ i % l2Words
-    → walk (base s) (blocks s) (mapOutcome pages golden s p i t r .after .memory) table addr ≡ ends l2 t r
+pub page-grants : (golden : List ℕ) (s : Store) (p i t r number : ℕ) (accepted : mapOutcome pages golden s p i t r number .answer ≡ 0) (table addr : ℕ)
+    → entryAt l1 (mapOutcome pages golden s p i t r number .after .memory) (wordIndex s table (bits addr 20 12)) ≡ linkTo p (i / l2Words) → bits addr 12 8 ≡ i % l2Words
+    → walk (base s) (blocks s) (mapOutcome pages golden s p i t r number .after .memory) table addr ≡ ends l2 t r
 unfolding isUnaccepted isFault coverFirst coverBlocks rights
-page-grants golden s p i t r accepted table addr through at =
-    let (can, _) = settled pages golden s p i t r accepted in
+page-grants golden s p i t r number accepted table addr through at =
+    let (can, _) = settled pages golden s p i t r number accepted in
     let small = leb-false (tableEntries l2) i (can .index-inside) in
-    let is = rw add-zero at (map-enters pages golden s p i t r accepted .decodes 0 (omega arith)) in
+    let is = rw add-zero at (map-enters pages golden s p i t r number accepted .decodes 0 (omega arith)) in
     walk-entry (base s) (blocks s) _ table addr p i (page t r) through at (omega arith) (can .table-inside) is
     refl (target-inside pages golden s p i t r (can .fits-target) (can .target-aligned) 0 (omega arith)) refl refl
 
 -- a walk, through a link to the table of its word k, to block k of the large page that was mapped
-pub large-grants : (golden : List ℕ) (s : Store) (p i t r : ℕ) (accepted : mapOutcome larges golden s p i t r .answer ≡ 0) (k : ℕ) → k < runWords → (table addr : ℕ)
-    → entryAt l1 (mapOutcome larges golden s p i t r .after .memory) (wordIndex s table (bits addr 20 12)) ≡ linkTo p ((i + k) / l2Words) → bits addr 12 8 ≡ (i + k) % l2Words
-    → walk (base s) (blocks s) (mapOutcome larges golden s p i t r .after .memory) table addr ≡ ends l2 (t + k) r
+pub large-grants : (golden : List ℕ) (s : Store) (p i t r number : ℕ) (accepted : mapOutcome larges golden s p i t r number .answer ≡ 0) (k : ℕ) → k < runWords → (table addr : ℕ)
+    → entryAt l1 (mapOutcome larges golden s p i t r number .after .memory) (wordIndex s table (bits addr 20 12)) ≡ linkTo p ((i + k) / l2Words) → bits addr 12 8 ≡ (i + k) % l2Words
+    → walk (base s) (blocks s) (mapOutcome larges golden s p i t r number .after .memory) table addr ≡ ends l2 (t + k) r
 unfolding isUnaccepted isFault coverFirst coverBlocks rights
-large-grants golden s p i t r accepted k l table addr through at =
-    let (can, _) = settled larges golden s p i t r accepted in
+large-grants golden s p i t r number accepted k l table addr through at =
+    let (can, _) = settled larges golden s p i t r number accepted in
     let small = leb-false (tableEntries l2) i (can .index-inside) in
     let multiple = equal (i % mappingWords larges) 0 (can .aligned) in
     let index : wordIndex s p i + k ≡ wordIndex s p (i + k) = omega arith in
-    let is = rw index at (map-enters larges golden s p i t r accepted .decodes k l) in
+    let is = rw index at (map-enters larges golden s p i t r number accepted .decodes k l) in
     walk-entry (base s) (blocks s) _ table addr p (i + k) (large (t + k) r) through at (omega arith) (can .table-inside) is
     refl (target-inside larges golden s p i t r (can .fits-target) (can .target-aligned) k l) refl refl
 
 -- Link
 
 module _ (s : Store) (p i t j : ℕ) (accepted : linkOutcome s p i t j .answer ≡ 0) where
-  linked : (Linkable s p i t j) × (linkOutcome s p i t j .after ≡ entered s p i 1 (λ k. linkTo t j))
+  linked : (Linkable s p i t j) × (linkOutcome s p i t j .after ≡ entered kindless s p i 1 (λ k. linkTo t j))
   unfolding linkOutcome
   linked =
       let rs = linkRefusals s p i t j in
-      let (zero-is, after-is, _) = settle-accepted s (leaving (entered s p i 1 (λ k. linkTo t j))) (answerOf rs) accepted in
+      let (zero-is, after-is, _) = settle-accepted s (leaving (entered kindless s p i 1 (λ k. linkTo t j))) (answerOf rs) accepted in
       (linkable s p i t j (passed-front rs (passed rs (omega arith) zero-is)), after-is)
 
   pub link-enters : Entered l1 s (linkOutcome s p i t j .after) p i 1 (λ k. linkTo t j)
   link-enters =
       let (can, after-is) = linked in
-      rw after-is (writes-entries l1 s p i 1 (λ k. linkTo t j) (link-written (wordIndex s p i) can) (omega arith) (can .region) (can .table-inside) (can .index-inside) _)
+      rw after-is (writes-entries kindless l1 s p i 1 (λ k. linkTo t j) (link-written (wordIndex s p i) can) (omega arith) (can .region) (can .table-inside) (can .index-inside) _)
 
   -- a walk through the link grants what the entry of the L2 table grants that the address names
   pub link-leads : (addr : ℕ) → bits addr 20 12 ≡ i

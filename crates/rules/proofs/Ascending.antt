@@ -85,9 +85,9 @@ lowest rs up = from 1 rs (omega arith) up where
 settled : (rs : List Refusal) (s : Store) (new : Accepted) → ascends (numbers rs) ≡ true → Lowest rs (settle (answerOf rs) s new .answer)
 settled rs s new up = rw (settle-answer (answerOf rs) s new) (lowest rs up)
 
-pub begin-lowest : (s : Store) (B : ℕ) → Lowest (beginRefusals s B) (beginOutcome s B .answer)
+pub begin-lowest : (s : Store) (kinds : List ℕ) (B : ℕ) → Lowest (beginRefusals s kinds B) (beginOutcome s kinds B .answer)
 unfolding beginOutcome
-begin-lowest s B = settled (beginRefusals s B) _ _ refl
+begin-lowest s kinds B = settled (beginRefusals s kinds B) _ _ refl
 
 pub create-lowest : (v : Level) (golden : List ℕ) (s : Store) (p : ℕ) → Lowest (createRefusals v golden s p) (createOutcome v golden s p .answer)
 unfolding createOutcome
@@ -97,9 +97,9 @@ pub free-lowest : (v : Level) (s : Store) (p : ℕ) → Lowest (freeRefusals v s
 unfolding freeOutcome
 free-lowest v s p = settled (freeRefusals v s p) _ _ refl
 
-pub map-lowest : (f : Form) (golden : List ℕ) (s : Store) (p i t r : ℕ) → Lowest (mapRefusals f golden s p i t r) (mapOutcome f golden s p i t r .answer)
+pub map-lowest : (f : Form) (golden : List ℕ) (s : Store) (p i t r k : ℕ) → Lowest (mapRefusals f golden s p i t r k) (mapOutcome f golden s p i t r k .answer)
 unfolding mapOutcome
-map-lowest f golden s p i t r = settled (mapRefusals f golden s p i t r) _ _ refl
+map-lowest f golden s p i t r k = settled (mapRefusals f golden s p i t r k) _ _ refl
 
 pub link-lowest : (s : Store) (p i t j : ℕ) → Lowest (linkRefusals s p i t j) (linkOutcome s p i t j .answer)
 unfolding linkOutcome

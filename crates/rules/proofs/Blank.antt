@@ -11,6 +11,8 @@ use native.Mathlib.Omega.{arith}
 use lib.ListN.{getD, take}
 use lib.Dec.{eqb}
 use borrow.Author.Tests.{le-ltb}
+use Rattle.words.specs.Words.{half}
+use Rattle.rules.specs.Map.{firstKind}
 use Rattle.words.specs.Bounded.{above, neqb, any, num}
 use Rattle.words.proofs.Bounded.{below-or-above, any-avoids, same}
 use Rattle.words.proofs.Lists.{length-tabulate}
@@ -21,11 +23,11 @@ use Rattle.entries.specs.Entries.{Entry, fault, Level, l1, l2, entryAt, l1Entry
 use Rattle.entries.specs.Rights.{allows}
 use Rattle.entries.proofs.RoundTrip.{readWrite}
 use Rattle.rules.specs.Refusals.{answerOf}
-use Rattle.rules.specs.Store.{blockWords, Store, blocks, base, Counter, writable, executable, linked, counter, someCounter, someBlock, someRegionBlock}
+use Rattle.rules.specs.Store.{blockWords, Store, blocks, base, Counter, writable, executable, linked, counter, someCounter, someBlock, someRegionBlock, kindAt, unlawfulKinds}
 use Rattle.rules.specs.Signature.{contents, signedBlock}
 use Rattle.rules.specs.Tables.{typeD, typeCode, tableBlocks, tableEntries, pages, typedEntry, tableEntry, grants, gain, astray}
 use Rattle.rules.specs.Outcomes.{leaving}
-use Rattle.rules.specs.Begin.{beginRefusals, beginAfter, beginOutcome}
+use Rattle.rules.specs.Begin.{cachedKinds, beginRefusals, beginAfter, beginOutcome}
 use Rattle.rules.specs.Create.{someCount, misplaced, unfitLink, unfitWrite, clash, clashes, unsigned, createRefusals, createOutcome, createAccepted}
 use Rattle.rules.specs.Steps.{Step, creates, maps, obey, run, runBy, Told, typed, afterAccepted, afterAnswer, history}
 use Rattle.rules.specs.Demand3.{storeAt, toldAt}
@@ -38,7 +40,7 @@ use Rattle.rules.proofs.Passing.{settle-answer, Taken, taken, no-misfit
 use Rattle.rules.proofs.InTurn.{Alone, map-goes, of-alone}
 use Rattle.rules.proofs.Policies.{policies}
 use Rattle.rules.proofs.Runs.{answers-append}
-use Rattle.rules.proofs.SmallStores.{memory, length-memory, first-entry, rest-entry, ledger, smallStore, fit}
+use Rattle.rules.proofs.SmallStores.{memory, length-memory, first-entry, rest-entry, ledger, smallStore, fit-given}
 
 -- every word is a fault, at either level
 abbrev pub Blank : List ℕ → Type 0
@@ -111,16 +113,16 @@ pub page-signed : signedBlock golden 0 (memory 0) 5 ≡ true
 unfolding signedBlock
 page-signed = signed-by-own-digest (contents (memory 0) 5)
 
-pub begins-zeros : beginOutcome (smallStore 0 ledger) 0 .answer ≡ 0
-unfolding beginOutcome
-begins-zeros = settle-answer _ _ _ ∙ accepted (step (fit 0 ledger refl) done)
+pub begins-zeros : beginOutcome (smallStore 0 ledger) cachedKinds 0 .answer ≡ 0
+unfolding beginOutcome unlawfulKinds any kindAt half
+begins-zeros = settle-answer _ _ _ ∙ accepted (step (fit-given 0 ledger refl) (step refl (step refl done)))
 
 abbrev pub started : Store
-started = beginOutcome (smallStore 0 ledger) 0 .after
+started = beginOutcome (smallStore 0 ledger) cachedKinds 0 .after
 
 started-memory : started .memory ≡ memory 0
 unfolding beginOutcome
-started-memory = ap (λ (x : Store). x .memory) (settle-accepted (smallStore 0 ledger) (leaving (beginAfter (smallStore 0 ledger) 0)) (answerOf (beginRefusals (smallStore 0 ledger) 0)) begins-zeros .1)
+started-memory = ap (λ (x : Store). x .memory) (settle-accepted (smallStore 0 ledger) (leaving (beginAfter (smallStore 0 ledger) cachedKinds 0)) (answerOf (beginRefusals (smallStore 0 ledger) cachedKinds 0)) begins-zeros .1)
 
 zeros-blank : Blank (memory 0)
 unfolding l1Entry l2Entry
@@ -132,7 +134,7 @@ zeros-blank v j = go v (below-or-above 0 j) where
 
 -- what has been told since the begin, with these types and this table in use
 abbrev pub toldOf : (ℕ → ℕ) → Option ℕ → Told
-toldOf types table = record { B = 0; types = types; table = table; golden = golden }
+toldOf types table = record { B = 0; kinds = cachedKinds; types = types; table = table; golden = golden }
 
 -- there are still only zeros
 pub record Zeros (types : ℕ → ℕ) (s : Store) : Type 0 where
@@ -140,7 +142,7 @@ pub record Zeros (types : ℕ → ℕ) (s : Store) : Type 0 where
   pub zeros : s .memory ≡ memory 0
 
 pub zeros-started : Zeros (λ b. typeD) started
-zeros-started = record { runs = begin-accepted (smallStore 0 ledger) 0 golden begins-zeros; zeros = started-memory }
+zeros-started = record { runs = begin-accepted (smallStore 0 ledger) cachedKinds 0 golden begins-zeros; zeros = started-memory }
 
 module _ {types : ℕ → ℕ} {s : Store} (z : Zeros types s) where
   pub blank : Blank (s .memory)
@@ -164,7 +166,7 @@ module _ {types : ℕ → ℕ} {s : Store} (z : Zeros types s) where
 
 -- an L2 table is made of block 0, and its entry 0 maps block 5 to be read and written
 abbrev pub tableAndPage : List Step
-tableAndPage = creates l2 0 ∷ maps pages 0 0 5 3 ∷ []
+tableAndPage = creates l2 0 ∷ maps pages 0 0 5 3 firstKind ∷ []
 
 abbrev withL2 : ℕ → ℕ
 withL2 = typed (λ b. typeD) 0 (tableBlocks l2) (typeCode l2)
@@ -196,12 +198,12 @@ two-steps =
     (rw (created, m .accepted) refl, of-alone (m .runs) (m .alone))
 
 -- after two steps there is what `Policies.in-turn` asks for
-pub writable-reached : WritableByOneEntry (toldAt golden 0 started tableAndPage 2) (storeAt golden started tableAndPage 2) 0 0 5
+pub writable-reached : WritableByOneEntry (toldAt golden cachedKinds 0 started tableAndPage 2) (storeAt golden started tableAndPage 2) 0 0 5
 unfolding history afterAnswer afterAccepted
 writable-reached = let (answers-are, one-entry) = two-steps in rw answers-are one-entry
 
 -- and six steps in a row are accepted
 pub six-accepted : run golden started (tableAndPage ++ thereAndBack 0 0 5) .answers ≡ (0 ∷ 0 ∷ 0 ∷ 0 ∷ 0 ∷ 0 ∷ [])
 six-accepted =
-    let back = policies golden (smallStore 0 ledger) 0 begins-zeros tableAndPage .in-turn lawful 0 0 5 2 writable-reached in
+    let back = policies golden (smallStore 0 ledger) cachedKinds 0 begins-zeros tableAndPage .in-turn lawful 0 0 5 2 writable-reached in
     answers-append golden started tableAndPage (thereAndBack 0 0 5) ∙ rw (two-steps .0, back) refl

@@ -1,4 +1,4 @@
--- Lists 7 to 12 and 14 hold on a box, where the guest's processor writes by itself: a block that it can write is not marked, but for
+-- Lists 7 to 12, 14 and 15 hold on a box, where the guest's processor writes by itself: a block that it can write is not marked, but for
 -- those that are forgotten at once.
 use mathlib.Core.Bool.{Bool, true, false, false≢true}
 use mathlib.Core.List.{List, [], _∷_}
@@ -28,10 +28,10 @@ module _ (golden : List ℕ) where
     pub owed : (b : ℕ) → b < blocks s → 0 < recorded s writable b → MarkedAt s b → Forgotten (base s + b) s steps
 
   isForget : Step → Bool
-  isForget (begins B) = false
+  isForget (begins kinds B) = false
   isForget (creates v p) = false
   isForget (frees v p) = false
-  isForget (maps f p i t r) = false
+  isForget (maps f p i t r k) = false
   isForget (links p i t j) = false
   isForget (unmaps f p i) = false
   isForget (switches p) = false
@@ -134,10 +134,10 @@ module _ (golden : List ℕ) where
 
   pub onward : {h : Told} {s : Store} (step : Step) {steps : List Step} → Duty h s (step ∷ steps) → Duty (afterAnswer (onBox golden s step .answer) h step) (onBox golden s step .after) steps
   unfolding onBox obey isForget grantsWrite afterAccepted
-  onward (begins B) d = call-onward (begins B) d refl refl (λ q g. absurd (false≢true g))
+  onward (begins kinds B) d = call-onward (begins kinds B) d refl refl (λ q g. absurd (false≢true g))
   onward (creates v p) d = call-onward (creates v p) d refl refl (λ q g. refl)
   onward (frees v p) d = call-onward (frees v p) d refl refl (λ q g. absurd (false≢true g))
-  onward (maps f p i t r) d = call-onward (maps f p i t r) d refl refl (λ q g. refl)
+  onward (maps f p i t r k) d = call-onward (maps f p i t r k) d refl refl (λ q g. refl)
   onward (links p i t j) d = call-onward (links p i t j) d refl refl (λ q g. absurd (false≢true g))
   onward (unmaps f p i) d = call-onward (unmaps f p i) d refl refl (λ q g. absurd (false≢true g))
   onward (switches p) d = call-onward (switches p) d refl refl (λ q g. absurd (false≢true g))
@@ -147,10 +147,10 @@ module _ (golden : List ℕ) where
   -- the processor's own access answers as the call would
   same-answer : (s : Store) (step : Step) → onBox golden s step .answer ≡ obey golden s step .answer
   unfolding onBox
-  same-answer s (begins B) = refl
+  same-answer s (begins kinds B) = refl
   same-answer s (creates v p) = refl
   same-answer s (frees v p) = refl
-  same-answer s (maps f p i t r) = refl
+  same-answer s (maps f p i t r k) = refl
   same-answer s (links p i t j) = refl
   same-answer s (unmaps f p i) = refl
   same-answer s (switches p) = refl
@@ -173,11 +173,11 @@ module _ (golden : List ℕ) where
   unfolding forgetsFirst
   rest d steps dutiful = record { same-golden = d .same-golden; runs = d .runs; dutiful = dutiful; owed = λ b l w k. absurd (false≢true (forget-first (d .owed b l w k))) }
 
-  pub begin-settled : (start : Store) (B : ℕ) → beginOutcome start B .answer ≡ 0 → Duty (begun B golden) (beginOutcome start B .after) []
+  pub begin-settled : (start : Store) (kinds : List ℕ) (B : ℕ) → beginOutcome start kinds B .answer ≡ 0 → Duty (begun kinds B golden) (beginOutcome start kinds B .after) []
   unfolding Dutiful
-  begin-settled start B accepted =
-      record { same-golden = refl; runs = begin-accepted start B golden accepted; dutiful = tt; owed = λ b l w k. absurd (begin-unmarked start B golden accepted b l k) }
+  begin-settled start kinds B accepted =
+      record { same-golden = refl; runs = begin-accepted start kinds B golden accepted; dutiful = tt; owed = λ b l w k. absurd (begin-unmarked start kinds B golden accepted b l k) }
 
 -- box 3: whatever an accepted begin was lent, and whatever the steps behind it
 pub box : Box-holds
-box golden start B accepted steps dutiful = claimed (onBox golden) (Duty golden) (box-keeps golden) golden steps (rest golden (begin-settled golden start B accepted) steps dutiful)
+box golden start kinds B accepted steps dutiful = claimed (onBox golden) (Duty golden) (box-keeps golden) golden steps (rest golden (begin-settled golden start kinds B accepted) steps dutiful)

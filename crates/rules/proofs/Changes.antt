@@ -12,13 +12,13 @@ use Rattle.words.specs.Bounded.{above}
 use Rattle.words.specs.Words.{word}
 use Rattle.words.proofs.Bounded.{any-avoids, below-or-above}
 use Rattle.entries.specs.Entries.{Entry}
-use Rattle.rules.specs.Store.{blockBytes, blockWords, ledgerHeadBytes, ledgerRecordBytes, basePlace, activePlace, Store, blocks, base, active, recordWord, typeWord, Counter, writable, executable, linked, counterWord, markWord, someCounter, counter, someBlock}
+use Rattle.rules.specs.Store.{blockBytes, blockWords, ledgerHeadBytes, ledgerRecordBytes, basePlace, activePlace, Store, blocks, base, active, kindsOf, unlawfulKinds, recordWord, typeWord, Counter, writable, executable, linked, counterWord, markWord, someCounter, counter, someBlock}
 use Rattle.rules.specs.Tables.{gain, executed}
 use Rattle.rules.specs.General.{Change, added, removed, endValue, overruns, someOverrun, recounted, admitting}
 use Rattle.rules.specs.Create.{clashes}
 use Rattle.rules.specs.Steps.{Told, Root}
 use Rattle.rules.proofs.Consistent.{Suits, Sound, sound-fault, Consistent, still, counts-limit, windowAfter, Replaces, no-overrun, replaced, added-exclusive, removed-exclusive}
-use Rattle.rules.proofs.Ledger.{length-recount, head-recount, type-recount, mark-recount, counter-recount, OnlyMarks, marks-set, mark-set}
+use Rattle.rules.proofs.Ledger.{length-recount, head-recount, kinds-recount, type-recount, mark-recount, counter-recount, OnlyMarks, marks-set, mark-set}
 use Rattle.rules.proofs.State.{typeAt, signedAt, recorded, MarkedAt, fit-same, activeWord, entryOf, Inv, Running, running, Goes}
 
 -- a counter by the block's place in the region
@@ -40,6 +40,8 @@ pub record Leaves (d : Change) (m : ℕ) (e : ℕ → Entry) (s after : Store) (
   pub ledger-length : length (after .ledger) ≡ length (s .ledger)
   pub base-is : base after ≡ base s
   pub active-is : active after ≡ activeWord (h .table)
+  pub kinds-are : kindsOf (after .ledger) ≡ h .kinds
+  pub kinds-lawful : unlawfulKinds (h .kinds) ≡ false
   pub types-are : (b : ℕ) → b < blocks s → recordWord (after .ledger) typeWord b ≡ typeAt (base s) h b
   pub counters-are : (c : Counter) (b : ℕ) → b < blocks s → end d s m e c b < 2 ^ 32 → recorded after c b ≡ end d s m e c b
   pub root : (p : ℕ) → h .table ≡ some p → Root (base s) (blocks s) (h .types) p
@@ -96,6 +98,8 @@ module _ {d : Change} {a m : ℕ} {e : ℕ → Entry} {h h′ : Told} {s after :
               fit = fit-same after (r .fit) (l .memory-length) (l .ledger-length);
               base-is = l .base-is;
               active-is = l .active-is;
+              kinds-are = l .kinds-are;
+              kinds-lawful = l .kinds-lawful;
               types-are = l .types-are;
               root = l .root;
               consistent = still agree (λ j i. refl) (λ b i x. refl) ends-as;
@@ -152,6 +156,8 @@ module _ {a m : ℕ} {e : ℕ → Entry} {h h′ : Told} {s after : Store} (chan
           ledger-length = o .length-is ∙ l .ledger-length;
           base-is = o .head-is basePlace (omega arith) ∙ l .base-is;
           active-is = o .head-is activePlace (omega arith) ∙ l .active-is;
+          kinds-are = o .kinds-are ∙ l .kinds-are;
+          kinds-lawful = l .kinds-lawful;
           types-are = λ b i. o .type-is b ∙ l .types-are b i;
           counters-are = λ c b i small. o .counter-is c b ∙ l .counters-are c b i small;
           root = l .root;
@@ -170,6 +176,9 @@ module _ (d : Change) (s : Store) (m : ℕ) (e : ℕ → Entry) where
 
   pub head-recounted : (a : ℕ) → a + 4 ≤ ledgerHeadBytes → word (recounted d s m e) a ≡ word (s .ledger) a
   head-recounted = head-recount (s .ledger) (blocks s) _
+
+  pub kinds-recounted : kindsOf (recounted d s m e) ≡ kindsOf (s .ledger)
+  kinds-recounted = kinds-recount (s .ledger) (blocks s) _
 
   pub type-recounted : (b : ℕ) → recordWord (recounted d s m e) typeWord b ≡ recordWord (s .ledger) typeWord b
   type-recounted = type-recount (s .ledger) (blocks s) _

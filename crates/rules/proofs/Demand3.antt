@@ -1,4 +1,4 @@
--- Lists 7 to 12 and 14 hold of every list: each step keeps the invariant, and the invariant says what they say of a moment.
+-- Lists 7 to 12, 14 and 15 hold of every list: each step keeps the invariant, and the invariant says what they say of a moment.
 use mathlib.Core.List.{List, [], _∷_}
 use mathlib.Core.Option.{some}
 use mathlib.Core.Path.{_≡_, refl, _∙_, subst}
@@ -21,10 +21,10 @@ use Rattle.rules.proofs.Guests.{guest-next, guest-guarded, guest-fetche
 -- one step, whatever it is
 pub step-next : {h : Told} {s : Store} → Running h s → (step : Step) → Next h s step (obey (h .golden) s step)
 unfolding obey
-step-next r (begins B) = begin-next r B
+step-next r (begins kinds B) = begin-next r kinds B
 step-next r (creates v p) = create-next v p r
 step-next r (frees v p) = free-next v p r
-step-next r (maps f p i t q) = map-next f p i t q r
+step-next r (maps f p i t q k) = map-next f p i t q k r
 step-next r (links p i t j) = link-next p i t j r
 step-next r (unmaps f p i) = unmap-next f p i r
 step-next r (switches p) = switch-next r p
@@ -34,10 +34,10 @@ step-next r (forgets p m) = forget-next r p m
 -- no step changes the golden image
 pub afterAnswer-golden : (k : ℕ) (h : Told) (step : Step) → afterAnswer k h step .golden ≡ h .golden
 unfolding afterAnswer afterAccepted
-afterAnswer-golden zero h (begins B) = refl
+afterAnswer-golden zero h (begins kinds B) = refl
 afterAnswer-golden zero h (creates v p) = refl
 afterAnswer-golden zero h (frees v p) = refl
-afterAnswer-golden zero h (maps f p i t q) = refl
+afterAnswer-golden zero h (maps f p i t q k) = refl
 afterAnswer-golden zero h (links p i t j) = refl
 afterAnswer-golden zero h (unmaps f p i) = refl
 afterAnswer-golden zero h (switches p) = refl
@@ -81,10 +81,10 @@ module _ (golden : List ℕ) where
 
 -- lists 13: whatever an accepted begin was lent, and whatever the steps behind it
 pub demand3 : Demand3-holds
-demand3 golden start B accepted steps = claimed (obey golden) (Lent golden) (calls-keep golden) golden steps (refl, begin-accepted start B golden accepted)
+demand3 golden start kinds B accepted steps = claimed (obey golden) (Lent golden) (calls-keep golden) golden steps (refl, begin-accepted start kinds B golden accepted)
 
 -- so it holds of the very store that a list reaches, with all its answers
-pub at-the-end : {golden : List ℕ} {B : ℕ} {s : Store} {steps : List Step} → Demand3 golden B s steps
-    → Safe (history (begun B golden) steps (run golden s steps .answers)) (run golden s steps .reached)
-at-the-end {golden} {B} {s} {steps} d =
-    subst (λ (list : List Step). Safe (history (begun B golden) list (run golden s steps .answers)) (run golden s list .reached)) (take-length steps) (d .safe (length steps))
+pub at-the-end : {golden kinds : List ℕ} {B : ℕ} {s : Store} {steps : List Step} → Demand3 golden kinds B s steps
+    → Safe (history (begun kinds B golden) steps (run golden s steps .answers)) (run golden s steps .reached)
+at-the-end {golden} {kinds} {B} {s} {steps} d =
+    subst (λ (list : List Step). Safe (history (begun kinds B golden) list (run golden s steps .answers)) (run golden s list .reached)) (take-length steps) (d .safe (length steps))

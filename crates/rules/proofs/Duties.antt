@@ -54,10 +54,10 @@ module _ (golden : List ℕ) where
 
   granted-within : {h : Told} {s : Store} → Settled h s → (step : Step) → onBox golden s step .answer ≡ 0 → (q : ℕ) → grantsWrite s step q ≡ true → Names (onBox golden s step .after) q
   unfolding onBox obey grantsWrite afterAccepted
-  granted-within d (begins B) zero-is q g = absurd (false≢true g)
+  granted-within d (begins kinds B) zero-is q g = absurd (false≢true g)
   granted-within {h} {s} d (creates v p) zero-is q g = accepted-within d (creates v p) (tableEntries v) (tableEntry v s p) refl (create-placed v golden s p zero-is) zero-is q g
   granted-within d (frees v p) zero-is q g = absurd (false≢true g)
-  granted-within {h} {s} d (maps f p i t r) zero-is q g = accepted-within d (maps f p i t r) (mappingWords f) (mapping f t r) refl (map-placed f golden s p i t r zero-is) zero-is q g
+  granted-within {h} {s} d (maps f p i t r k) zero-is q g = accepted-within d (maps f p i t r k) (mappingWords f) (mapping f t r) refl (map-placed f golden s p i t r k zero-is) zero-is q g
   granted-within d (links p i t j) zero-is q g = absurd (false≢true g)
   granted-within d (unmaps f p i) zero-is q g = absurd (false≢true g)
   granted-within d (switches p) zero-is q g = absurd (false≢true g)
@@ -105,4 +105,4 @@ module _ (golden : List ℕ) where
 
 -- box 5: whatever an accepted begin was lent, and whatever the steps behind it
 pub duty-can-be-done : Duty-can-be-done
-duty-can-be-done golden start B accepted steps = careful-dutiful golden (begin-settled golden start B accepted) steps
+duty-can-be-done golden start kinds B accepted steps = careful-dutiful golden (begin-settled golden start kinds B accepted) steps

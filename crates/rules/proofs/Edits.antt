@@ -12,7 +12,7 @@ use Rattle.words.specs.Bounded.{above}
 use Rattle.words.specs.Words.{word}
 use Rattle.words.proofs.Bounded.{any-none, below-or-above}
 use Rattle.entries.specs.Entries.{Entry, fault, Level, entryAt, isFault, runWords}
-use Rattle.entries.specs.Written.{wordOf, cacheable}
+use Rattle.entries.specs.Written.{wordOf}
 use Rattle.entries.proofs.Covers.{standsAlone}
 use Rattle.entries.proofs.Decoding.{Lone, lone-word}
 use Rattle.entries.proofs.RoundTrip.{Encodable}
@@ -27,7 +27,7 @@ use Rattle.rules.proofs.Consistent.{Sound, Replaces, windowBefore, wind
 use Rattle.rules.proofs.State.{typeAt, signedAt, recorded, MarkedAt, entryOf, Running, equal, within, types-told}
 use Rattle.rules.proofs.Tables.{entryOf-table, typedEntry-same}
 use Rattle.rules.proofs.Ledger.{OnlyMarks, marks-clear, mark-cleared, mark-clear-other}
-use Rattle.rules.proofs.Changes.{Changes, counter-at, end, Leaves, Fresh, length-recounted, head-recounted, type-recounted, mark-recounted, counter-recounted}
+use Rattle.rules.proofs.Changes.{Changes, counter-at, end, Leaves, Fresh, length-recounted, head-recounted, kinds-recounted, type-recounted, mark-recounted, counter-recounted}
 
 -- the m words from index i of a table at block p on, of which 2, 3, 4, 5 and 7 hold nothing against
 pub record Slot (h : Told) (s : Store) (v : Level) (p i m : ℕ) : Type 0 where
@@ -67,22 +67,22 @@ module _ {h : Told} {s : Store} (r : Running h s) (v : Level) (p i m : ℕ) wher
         unexecuted = omega arith;
       }
 
-  -- the entries e are added at the window, or removed from it
-  abbrev pub edited : Change → (ℕ → Entry) → Store
-  edited d e = editedStore d s p i m e (λ k. wordOf cacheable (windowAfter d e k))
+  -- the entries e, of a memory kind, are added at the window, or removed from it
+  abbrev pub edited : ℕ → Change → (ℕ → Entry) → Store
+  edited kind d e = editedStore d s p i m e (λ k. wordOf kind (windowAfter d e k))
 
-  module _ (sl : Slot h s v p i m) (d : Change) (e : ℕ → Entry) where
+  module _ (sl : Slot h s v p i m) (kind : ℕ) (d : Change) (e : ℕ → Entry) where
     abbrev w : ℕ → ℕ
-    w k = wordOf cacheable (windowAfter d e k)
+    w k = wordOf kind (windowAfter d e k)
 
     -- the holder, by its place in the region
     abbrev own : ℕ
     own = holder p i - base s
 
-    holder-cleared : OnlyMarks (recounted d s m e) (edited d e .ledger)
+    holder-cleared : OnlyMarks (recounted d s m e) (edited kind d e .ledger)
     holder-cleared = marks-clear (recounted d s m e) own
 
-    edit-leaves : Leaves d m e s (edited d e) h
+    edit-leaves : Leaves d m e s (edited kind d e) h
     edit-leaves =
         let o = holder-cleared in
         record {
@@ -91,13 +91,15 @@ module _ {h : Told} {s : Store} (r : Running h s) (v : Level) (p i m : ℕ) wher
           ledger-length = o .length-is ∙ length-recounted d s m e;
           base-is = o .head-is basePlace (omega arith) ∙ head-recounted d s m e basePlace (omega arith);
           active-is = o .head-is activePlace (omega arith) ∙ head-recounted d s m e activePlace (omega arith) ∙ r .active-is;
+          kinds-are = o .kinds-are ∙ kinds-recounted d s m e ∙ r .kinds-are;
+          kinds-lawful = r .kinds-lawful;
           types-are = λ b l. o .type-is b ∙ type-recounted d s m e b ∙ r .types-are b l;
           counters-are = λ c b l small. o .counter-is c b ∙ counter-recounted d s m e (r .fit .ledger-length) c b l small;
           root = r .root;
         }
 
     -- a block that is marked afterwards is not the holder, and was marked before
-    edit-marks : (b : ℕ) → b < blocks s → MarkedAt (edited d e) b → (own ≢ b) × MarkedAt s b
+    edit-marks : (b : ℕ) → b < blocks s → MarkedAt (edited kind d e) b → (own ≢ b) × MarkedAt s b
     edit-marks b l k = (other, sym (mark-clear-other (recounted d s m e) own b other ∙ mark-recounted d s m e b) ∙ k) where
       other : own ≢ b
       other q =
@@ -116,53 +118,53 @@ module _ {h : Told} {s : Store} (r : Running h s) (v : Level) (p i m : ℕ) wher
       stood : (k : ℕ) → k < m → entryAt v (s .memory) (wordIndex s p i + k) ≡ windowBefore d e k
       stood k l = ap (entryAt v (s .memory)) (add-assoc (blockWords * (p - base s)) i k) ∙ before k l
 
-      stands : (k : ℕ) → k < m → entryAt v (edited d e .memory) (wordIndex s p i + k) ≡ windowAfter d e k
-      stands = let f = r .fit .memory-length in entryAt-fill v (s .memory) (wordIndex s p i) cacheable (windowAfter d e) m written (omega arith)
+      stands : (k : ℕ) → k < m → entryAt v (edited kind d e .memory) (wordIndex s p i + k) ≡ windowAfter d e k
+      stands = let f = r .fit .memory-length in entryAt-fill v (s .memory) (wordIndex s p i) kind (windowAfter d e) m written (omega arith)
 
       -- an entry outside, in a table of this level
-      beside : (j : ℕ) → (wordIndex s p i ≤ j → wordIndex s p i + m ≤ j) → entryAt v (edited d e .memory) j ≡ entryAt v (s .memory) j
+      beside : (j : ℕ) → (wordIndex s p i ≤ j → wordIndex s p i + m ≤ j) → entryAt v (edited kind d e .memory) j ≡ entryAt v (s .memory) j
       beside j o = entryAt-fill-other (s .memory) (wordIndex s p i) w v m j o (lone apart) where
         lone : Apart (wordIndex s p i) m (windowBefore d e) (windowAfter d e) → (k : ℕ) → k < m → (wordIndex s p i + k) / runWords ≡ j / runWords
-            → Lone v (word (s .memory) (4 * (wordIndex s p i + k))) × Lone v (word (edited d e .memory) (4 * (wordIndex s p i + k)))
+            → Lone v (word (s .memory) (4 * (wordIndex s p i + k))) × Lone v (word (edited kind d e .memory) (4 * (wordIndex s p i + k)))
         lone (as-run aligned number) k l near = let z : ⊥ = omega (arith, o (omega arith)) in absurd z
         lone (as-singles each) k l near = (
           lone-word v (s .memory) (wordIndex s p i + k) (rw (stood k l) (each k l .0)),
-          lone-word v (edited d e .memory) (wordIndex s p i + k) (rw (stands k l) (each k l .1)),
+          lone-word v (edited kind d e .memory) (wordIndex s p i + k) (rw (stands k l) (each k l .1)),
         )
 
       -- an entry outside, of whatever type
-      outside-same : (j : ℕ) → (wordIndex s p i ≤ j → wordIndex s p i + m ≤ j) → entryOf (base s) h (edited d e .memory) j ≡ entryOf (base s) h (s .memory) j
+      outside-same : (j : ℕ) → (wordIndex s p i ≤ j → wordIndex s p i + m ≤ j) → entryOf (base s) h (edited kind d e .memory) j ≡ entryOf (base s) h (s .memory) j
       outside-same j o = go (ℕ-discrete (j / blockWords) (wordIndex s p i / blockWords)) where
-        go : Dec (j / blockWords ≡ wordIndex s p i / blockWords) → entryOf (base s) h (edited d e .memory) j ≡ entryOf (base s) h (s .memory) j
+        go : Dec (j / blockWords ≡ wordIndex s p i / blockWords) → entryOf (base s) h (edited kind d e .memory) j ≡ entryOf (base s) h (s .memory) j
         go (yes q) =
             let at : base s + j / blockWords ≡ holder p i = omega (arith, sl .low) in
             let typed = sl .typed (i / blockWords) (omega (arith, sl .index)) in
-            entryOf-table (base s) h (edited d e .memory) j (holder p i) at v typed ∙ beside j o ∙ sym (entryOf-table (base s) h (s .memory) j (holder p i) at v typed)
+            entryOf-table (base s) h (edited kind d e .memory) j (holder p i) at v typed ∙ beside j o ∙ sym (entryOf-table (base s) h (s .memory) j (holder p i) at v typed)
         go (no q) =
-            typedEntry-same (edited d e .memory) (s .memory) j (λ u. entryAt-fill-other (s .memory) (wordIndex s p i) w u m j o (λ k l near. absurd (q (omega (arith, sl .in-holder))))) (h .types (base s + j / blockWords))
+            typedEntry-same (edited kind d e .memory) (s .memory) j (λ u. entryAt-fill-other (s .memory) (wordIndex s p i) w u m j o (λ k l near. absurd (q (omega (arith, sl .in-holder))))) (h .types (base s + j / blockWords))
 
-      edit-replaces : Replaces d (blockWords * blocks s) (wordIndex s p i) m e (entryOf (base s) h (s .memory)) (entryOf (base s) h (edited d e .memory))
+      edit-replaces : Replaces d (blockWords * blocks s) (wordIndex s p i) m e (entryOf (base s) h (s .memory)) (entryOf (base s) h (edited kind d e .memory))
       edit-replaces =
           record {
             within = omega (arith, r .fit .memory-length, sl .low, sl .high, sl .in-table);
             before = λ k l. window-entry (s .memory) k l ∙ stood k l;
-            after = λ k l. window-entry (edited d e .memory) k l ∙ stands k l;
+            after = λ k l. window-entry (edited kind d e .memory) k l ∙ stands k l;
             same = λ j l o. outside-same j o;
           }
 
     -- no block that can be executed or is marked afterwards has other contents
-    edit-keeps : end d s m e executable own ≡ 0 → (b : ℕ) → b < blocks s → (0 < end d s m e executable b) ⊎ MarkedAt (edited d e) b
-        → signedAt (base s) h (edited d e .memory) b ≡ signedAt (base s) h (s .memory) b
+    edit-keeps : end d s m e executable own ≡ 0 → (b : ℕ) → b < blocks s → (0 < end d s m e executable b) ⊎ MarkedAt (edited kind d e) b
+        → signedAt (base s) h (edited kind d e .memory) b ≡ signedAt (base s) h (s .memory) b
     edit-keeps none b l more =
         let mem = s .memory in
         let whole = sl .in-holder in
-        let other : own ≢ b = ⊎-elim (λ (x : 0 < end d s m e executable b). λ q. omega (arith, x, rw q at none)) (λ (k : MarkedAt (edited d e) b). edit-marks b l k .0) more in
+        let other : own ≢ b = ⊎-elim (λ (x : 0 < end d s m e executable b). λ q. omega (arith, x, rw q at none)) (λ (k : MarkedAt (edited kind d e) b). edit-marks b l k .0) more in
         signedBlock-same (h .golden) (base s) (fill mem (wordIndex s p i) m w) mem b (contents-fill mem (wordIndex s p i) w m b (λ k. omega arith))
 
     -- the window was as it is before the change, and its holder can't be executed
     pub edits : Encodable v (wordIndex s p i) m (windowAfter d e) → ((k : ℕ) → k < m → tableEntry v s p (i + k) ≡ windowBefore d e k)
         → Apart (wordIndex s p i) m (windowBefore d e) (windowAfter d e) → end d s m e executable (holder p i - base s) ≡ 0
-        → Changes d (wordIndex s p i) m e h h s (edited d e)
+        → Changes d (wordIndex s p i) m e h h s (edited kind d e)
     edits written before apart none =
         record { leaves = edit-leaves; replaces = edit-replaces written before apart; carry = λ c b l k suits. suits; keep = edit-keeps none; marks = λ b l k. inl (edit-marks b l k .1) }
 
@@ -192,14 +194,14 @@ module _ {h : Told} {s : Store} (r : Running h s) (v : Level) (p i m : ℕ) (sl 
       rw (counter-at writable s b, counter-at executable s b) (no-clash _ _ _ _ (harmless .write-alone b l) (harmless .execute-alone b l))
 
   -- entries that suit their targets, written where faults were
-  pub enters : Encodable v (wordIndex s p i) m x → Apart (wordIndex s p i) m (λ k. fault) x → occupied v s p i m ≡ false
+  pub enters : (kind : ℕ) → Encodable v (wordIndex s p i) m x → Apart (wordIndex s p i) m (λ k. fault) x → occupied v s p i m ≡ false
       → ((k : ℕ) → k < m → Sound (base s) (blocks s) (typeAt (base s) h) (x k))
-      → Changes added (wordIndex s p i) m x h h s (entered s p i m x) × Fresh m x h h s
+      → Changes added (wordIndex s p i) m x h h s (entered kind s p i m x) × Fresh m x h h s
   unfolding endValue
-  enters written apart free sound =
+  enters kind written apart free sound =
       let at : base s + (holder p i - base s) ≡ holder p i = (let whole = sl .in-holder in omega arith) in
       let was : (k : ℕ) → k < m → tableEntry v s p (i + k) ≡ fault = λ k l.
       fault-is (tableEntry v s p (i + k)) (not-false (isFault (tableEntry v s p (i + k))) (any-none (λ k. not (isFault (tableEntry v s p (i + k)))) m free k l)) in (
-        edits r v p i m sl added x written was apart (rw at (omega (arith, sl .unexecuted, harmless .spares-holder))),
+        edits r v p i m sl kind added x written was apart (rw at (omega (arith, sl .unexecuted, harmless .spares-holder))),
         record { sound = sound; clear = clear; signs = harmless .signs },
       )

@@ -9,10 +9,12 @@ use native.Mathlib.Nat.{add-zero}
 use native.Mathlib.Omega.{arith}
 use lib.ListN.{getD, getElem?, take}
 use borrow.Author.Tests.{le-ltb}
+use Rattle.rules.specs.Begin.{cachedKinds}
+use Rattle.rules.specs.Map.{firstKind}
 use Rattle.words.specs.Bounded.{num}
 use Rattle.words.proofs.Bounded.{any-avoids, same}
 use Rattle.entries.specs.Entries.{Entry, fault, page, l1, l2, entryAt, isFault, rights, isLarge}
-use Rattle.entries.specs.Written.{wordOf, cacheable}
+use Rattle.entries.specs.Written.{wordOf, kindless}
 use Rattle.entries.specs.Rights.{allows}
 use Rattle.entries.proofs.Decoding.{entryAt-cong}
 use Rattle.entries.proofs.RoundTrip.{readExecute}
@@ -41,7 +43,7 @@ use Rattle.rules.proofs.SmallStores.{ledger, smallStore}
 use Rattle.rules.proofs.Blank.{golden, lawful, page-signed, begins-zeros, started, toldOf, Zeros, zeros-started, blank, eight, uncounted, create-zeros}
 
 abbrev pub toFetch : List Step
-toFetch = creates l1 0 ∷ creates l2 4 ∷ links 0 0 4 0 ∷ maps pages 4 0 5 5 ∷ switches 0 ∷ accesses fetches 0 ∷ []
+toFetch = creates l1 0 ∷ creates l2 4 ∷ links 0 0 4 0 ∷ maps pages 4 0 5 5 firstKind ∷ switches 0 ∷ accesses fetches 0 ∷ []
 
 -- the types once there are an L1 table and an L2 block
 abbrev withL1 : ℕ → ℕ
@@ -64,9 +66,9 @@ module _ {s : Store} (z : Zeros withBoth s) where
       (step (any-avoids (λ k. not (isFault (tableEntry l1 s 0 (0 + k)))) 1 (λ k l. rw (blank z l1 _) refl))
       (step (inside (base s) (blocks s) 4 1 (omega arith) (omega arith)) (step (same (typeOf s 4) (typeCode l2) (type-told (z .runs) 4 (omega arith) (omega arith) ∙ refl)) done)))))))))
 
-  link-taken : Taken (toldOf withBoth none) s (links 0 0 4 0) (entered s 0 0 1 (λ k. linkTo 4 0))
+  link-taken : Taken (toldOf withBoth none) s (links 0 0 4 0) (entered kindless s 0 0 1 (λ k. linkTo 4 0))
   unfolding obey linkOutcome
-  link-taken = taken (z .runs) (links 0 0 4 0) _ (leaving (entered s 0 0 1 (λ k. linkTo 4 0))) refl link-passes
+  link-taken = taken (z .runs) (links 0 0 4 0) _ (leaving (entered kindless s 0 0 1 (λ k. linkTo 4 0))) refl link-passes
 
   abbrev linked : Store
   linked = obey golden s (links 0 0 4 0) .after
@@ -85,7 +87,7 @@ module _ {s : Store} (z : Zeros withBoth s) where
   unfolding typed gives grants allows rights num isLarge
   linked-alone =
       let a = wordIndex s 0 0 in
-      let w : ℕ → ℕ = λ k. wordOf cacheable (linkTo 4 0) in
+      let w : ℕ → ℕ = λ k. wordOf kindless (linkTo 4 0) in
       let based = z .runs .told-base in
       let more : 8 ≤ blocks linked = rw (link-taken .leaves) (omega (arith, length-fill (s .memory) a w 1, eight z)) in
       record {
@@ -103,12 +105,12 @@ module _ {s : Store} (z : Zeros withBoth s) where
         holder-unexecuted = linked-uncounted executable (λ q. refl) 4 (omega arith);
       }
 
-  mapped : Went (toldOf withBoth none) linked (maps pages 4 0 5 5) 4 0 5 (page 5 5)
+  mapped : Went (toldOf withBoth none) linked (maps pages 4 0 5 5 firstKind) 4 0 5 (page 5 5)
   unfolding afterAccepted
   mapped = map-goes (link-taken .runs) lawful readExecute linked-alone
 
   abbrev ready : Store
-  ready = obey golden linked (maps pages 4 0 5 5) .after
+  ready = obey golden linked (maps pages 4 0 5 5 firstKind) .after
 
   -- the table leads address 0 to block 5
   leads : walk 0 (blocks ready) (ready .memory) 0 0 ≡ ends l2 5 5
@@ -117,11 +119,11 @@ module _ {s : Store} (z : Zeros withBoth s) where
       let based = z .runs .told-base in
       let linked-based = link-taken .runs .told-base in
       let a = wordIndex linked 0 0 in
-      let enters = map-enters pages golden linked 4 0 5 5 (mapped .accepted) in
+      let enters = map-enters pages golden linked 4 0 5 5 firstKind (mapped .accepted) in
       let still : entryAt l1 (ready .memory) a ≡ entryAt l1 (linked .memory) a = entryAt-cong l1 (ready .memory) (linked .memory) a (λ k near. enters .others k (λ e. omega arith)) in
       let at : a ≡ wordIndex s 0 0 = omega arith in
       let through = still ∙ ap (entryAt l1 (linked .memory)) at ∙ rw add-zero at (link-enters s 0 0 4 0 (link-taken .accepted) .decodes 0 (omega arith)) in
-      rw (enters .same-length) (rw (← linked-based) at (page-grants golden linked 4 0 5 5 (mapped .accepted) 0 0 through refl))
+      rw (enters .same-length) (rw (← linked-based) at (page-grants golden linked 4 0 5 5 firstKind (mapped .accepted) 0 0 through refl))
 
   switched : Taken (toldOf withBoth none) ready (switches 0) (switchAfter ready 0)
   switched = switch-taken (mapped .runs) 0 (record { low = omega arith; high = omega (arith, mapped .alone .high); aligned = refl; typed = is-L1 })
@@ -147,10 +149,10 @@ byte = getD (run golden started toFetch .bytes) 5 0
 sixth-accepted : getElem? (run golden started toFetch .answers) 5 ≡ some 0
 sixth-accepted = ap (λ (ks : List ℕ). getElem? ks 5) fetch-accepted
 
-pub byte-fetched : Fetched (toldAt golden 0 started toFetch 5) (storeAt golden started toFetch 5) 0 byte
+pub byte-fetched : Fetched (toldAt golden cachedKinds 0 started toFetch 5) (storeAt golden started toFetch 5) 0 byte
 unfolding runBy
-byte-fetched = demand3 golden (smallStore 0 ledger) 0 begins-zeros toFetch .fetched 5 0 byte refl sixth-accepted refl
+byte-fetched = demand3 golden (smallStore 0 ledger) cachedKinds 0 begins-zeros toFetch .fetched 5 0 byte refl sixth-accepted refl
 
-pub code-fetched : FetchedCode (toldAt golden 0 started toFetch 5) (storeAt golden started toFetch 5) 0 byte
+pub code-fetched : FetchedCode (toldAt golden cachedKinds 0 started toFetch 5) (storeAt golden started toFetch 5) 0 byte
 unfolding runBy
-code-fetched = policies golden (smallStore 0 ledger) 0 begins-zeros toFetch .fetched 5 0 byte refl sixth-accepted refl
+code-fetched = policies golden (smallStore 0 ledger) cachedKinds 0 begins-zeros toFetch .fetched 5 0 byte refl sixth-accepted refl

@@ -17,7 +17,7 @@ use Rattle.entries.specs.Entries.{Entry, Level, l1, rights}
 use Rattle.entries.specs.Rights.{allows}
 use Rattle.entries.proofs.Decoding.{entryAt-cong}
 use Rattle.rules.specs.Refusals.{Refusal, _if_, answerOf}
-use Rattle.rules.specs.Store.{blockBytes, blockWords, basePlace, activePlace, Store, blocks, base, active, recordWord, Counter, writable, executable, counterWord, markWord, markValue, clearMark, misfit}
+use Rattle.rules.specs.Store.{blockBytes, blockWords, basePlace, activePlace, Store, blocks, base, active, recordWord, Counter, writable, executable, counterWord, markWord, markValue, clearMark, misfitStored}
 use Rattle.rules.specs.Signature.{contents}
 use Rattle.rules.specs.Tables.{typeD, tableBlocks, grants, gives}
 use Rattle.rules.specs.General.{tableOutside, misaligned}
@@ -75,10 +75,10 @@ module _ {h : Told} {s : Store} (r : Running h s) where
     -- no other number answers
     guest-avoids : (k : ℕ) → (0 ≢ k) × (1 ≢ k) × (21 ≢ k) × (22 ≢ k) × (23 ≢ k) → answerOf (guestRefusals a s addr) ≢ k
     guest-avoids k (n0, n1, n21, n22, n23) = go (noActiveTable s) refl where
-      go : (t : Bool) → noActiveTable s ≡ t → answerOf (1 if misfit s (base s) ∷ 21 if t ∷ walkRefusals a (activeWalk s addr)) ≢ k
-      go true e = barred (misfit s (base s)) (walkRefusals a (activeWalk s addr)) k n1 n21
+      go : (t : Bool) → noActiveTable s ≡ t → answerOf (1 if misfitStored s ∷ 21 if t ∷ walkRefusals a (activeWalk s addr)) ≢ k
+      go true e = barred (misfitStored s) (walkRefusals a (activeWalk s addr)) k n1 n21
       go false e =
-          avoided k (1 if misfit s (base s) ∷ 21 if false ∷ walkRefusals a (activeWalk s addr)) n0
+          avoided k (1 if misfitStored s ∷ 21 if false ∷ walkRefusals a (activeWalk s addr)) n0
           (n1, (n21, walk-avoids (base s) (blocks s) (entryOf (base s) h (s .memory)) a (activeWalk s addr) (sensible e) k n22 n23))
 
     arrives : noActiveTable s ≡ false → (w : Walk) → activeWalk s addr ≡ w → Passed (walkRefusals a w) → Arrived h s a addr
@@ -91,7 +91,7 @@ module _ {h : Told} {s : Store} (r : Running h s) where
     pub arrived : answerOf (guestRefusals a s addr) ≡ 0 → Arrived h s a addr
     arrived accepted = go (noActiveTable s) refl where
       go : (t : Bool) → noActiveTable s ≡ t → Arrived h s a addr
-      go true e = absurd (barred (misfit s (base s)) (walkRefusals a (activeWalk s addr)) 0 (λ q. omega arith) (λ q. omega arith) (rw e at accepted))
+      go true e = absurd (barred (misfitStored s) (walkRefusals a (activeWalk s addr)) 0 (λ q. omega arith) (λ q. omega arith) (rw e at accepted))
       go false e =
           let numbered = walk-avoids (base s) (blocks s) (entryOf (base s) h (s .memory)) a (activeWalk s addr) (sensible e) 0 (λ q. omega arith) (λ q. omega arith) in
           let t = passed (guestRefusals a s addr) ((λ q. omega arith), ((λ q. omega arith), numbered)) accepted in
@@ -139,6 +139,8 @@ module _ {h : Told} {s : Store} (r : Running h s) where
         fit = fit-same wrote (r .fit) (length-set (s .memory) j v) (only .length-is);
         base-is = only .head-is basePlace (omega arith);
         active-is = only .head-is activePlace (omega arith) ∙ r .active-is;
+        kinds-are = only .kinds-are ∙ r .kinds-are;
+        kinds-lawful = r .kinds-lawful;
         types-are = λ c l. only .type-is c ∙ r .types-are c l;
         root = r .root;
         consistent = still (r .consistent) (λ i l. same-entry i) (λ c l x. same-signed c (λ q. omega (arith, x, rw q at unexecuted))) (λ c d l. only .counter-is c d);

@@ -13,7 +13,7 @@ use Rattle.words.specs.Bounded.{above, neqb, among, sum, num}
 use Rattle.words.proofs.Bounded.{any-avoids, false-unless, and-true-right, same, among-in, among-within}
 use Rattle.signature.specs.Signed.{misfitImage}
 use Rattle.entries.specs.Entries.{Entry, Level, fault, page, l2, entryAt, isFault, rights, placeFirst, coverFirst, placeBlocks, coverBlocks, covers, isLarge}
-use Rattle.entries.specs.Written.{wordOf, cacheable}
+use Rattle.entries.specs.Written.{wordOf, kindless}
 use Rattle.entries.specs.Rights.{write, execute, allows}
 use Rattle.entries.specs.Rights.{unlawfulRights}
 use Rattle.entries.proofs.RoundTrip.{Single, a-fault, a-link, a-section, a-page, singly, Grantable, none, read, readWrite, readExecute}
@@ -22,7 +22,7 @@ use Rattle.rules.specs.Signature.{signedBlock, unknown}
 use Rattle.rules.specs.Tables.{typeD, typeCode, tableEntries, pages, wordIndex, tableEntry, grants, gives, gain}
 use Rattle.rules.specs.General.{tableOutside, otherType, holder, executableHolder, Change, added, removed, endValue, recounted, occupied}
 use Rattle.rules.specs.Outcomes.{leaving}
-use Rattle.rules.specs.Map.{unfitTarget, clashingTarget, unsignedTarget, mapRefusals, mapAccepted, mapOutcome}
+use Rattle.rules.specs.Map.{unfitTarget, clashingTarget, unsignedTarget, storedKind, firstKind, mapRefusals, mapAccepted, mapOutcome}
 use Rattle.rules.specs.Unmap.{unmapRefusals, unmapAfter, unmapOutcome}
 use Rattle.rules.specs.Steps.{Step, maps, unmaps, obey, run, runBy, Told, afterAccepted}
 use Rattle.rules.specs.Policies.{forAnother, WritableByOneEntry, thereAndBack}
@@ -88,9 +88,9 @@ module _ {h : Told} {s : Store} (r : Running h s) {p i t : ℕ} {e : Entry} (a :
         counted (r .consistent) c (t - base s) j (omega arith) (omega arith) (rw (is, at) g)
 
   -- what is left when y stands where the entry stood, and what x 0 gives has been added to the counters or removed
-  module _ (d : Change) (x : ℕ → Entry) (y : Entry) {led : List ℕ} (only : OnlyMarks (recounted d s 1 x) led) where
+  module _ (kind : ℕ) (d : Change) (x : ℕ → Entry) (y : Entry) {led : List ℕ} (only : OnlyMarks (recounted d s 1 x) led) where
     abbrev after : Store
-    after = record { memory = fill (s .memory) (wordIndex s p i) 1 (λ k. wordOf cacheable y); ledger = led }
+    after = record { memory = fill (s .memory) (wordIndex s p i) 1 (λ k. wordOf kind y); ledger = led }
 
     left : (c : Counter) (q : ℕ) → base s ≤ q → q < base s + blocks s → recorded after c (q - base s) ≡ endValue d (recorded s c (q - base s)) (num (gives c (x 0) q))
     left c q lo hi =
@@ -105,7 +105,7 @@ module _ {h : Told} {s : Store} (r : Running h s) {p i t : ℕ} {e : Entry} (a :
         → Alone (base s) h after p i t y
     edit-alone written uses unexecuted =
         let f = r .fit .memory-length in
-        let same-blocks = length-fill (s .memory) (wordIndex s p i) (λ k. wordOf cacheable y) 1 in
+        let same-blocks = length-fill (s .memory) (wordIndex s p i) (λ k. wordOf kind y) 1 in
         let at : base s + (t - base s) ≡ t = omega arith in
         let o = other in
         record {
@@ -116,8 +116,8 @@ module _ {h : Told} {s : Store} (r : Running h s) {p i t : ℕ} {e : Entry} (a :
           low = a .low;
           high = omega arith;
           free = a .free;
-          signs = rw at at (signedBlock-same (h .golden) (base s) (after .memory) (s .memory) (t - base s) (contents-fill (s .memory) (wordIndex s p i) (λ k. wordOf cacheable y) 1 (t - base s) (λ k. omega arith))) ∙ a .signs;
-          holds = rw add-zero at (entryAt-fill l2 (s .memory) (wordIndex s p i) cacheable (λ k. y) 1 (singly (λ k l. written)) (omega arith) 0 (omega arith));
+          signs = rw at at (signedBlock-same (h .golden) (base s) (after .memory) (s .memory) (t - base s) (contents-fill (s .memory) (wordIndex s p i) (λ k. wordOf kind y) 1 (t - base s) (λ k. omega arith))) ∙ a .signs;
+          holds = rw add-zero at (entryAt-fill l2 (s .memory) (wordIndex s p i) kind (λ k. y) 1 (singly (λ k l. written)) (omega arith) 0 (omega arith));
           not-large = no-large written;
           only = rw (left writable t (a .low) (a .high), left executable t (a .low) (a .high)) uses;
           holder-unexecuted = left executable p (a .table-low) (a .table-high) ∙ unexecuted;
@@ -150,7 +150,7 @@ module _ {h : Told} {s : Store} (r : Running h s) {p i t : ℕ} {e : Entry} (a :
       let is : tableEntry l2 s p (i + 0) ≡ e = ap (tableEntry l2 s p) (add-zero i) ∙ a .holds in
       let w = given-counted writable in
       let x = given-counted executable in
-      edit-alone removed (λ k. tableEntry l2 s p (i + k)) fault (marks-clear _ (holder p i - base s)) a-fault
+      edit-alone kindless removed (λ k. tableEntry l2 s p (i + k)) fault (marks-clear _ (holder p i - base s)) a-fault
       (rw (is, gives-fault writable t, gives-fault executable t) (omega (arith, a .only)))
       (omega (arith, a .holder-unexecuted))
 
@@ -172,7 +172,7 @@ module _ {h : Told} {s : Store} (r : Running h s) {p i t q : ℕ} (a : Alone (ba
   unfolding isFault
   vacant = any-avoids (λ k. not (isFault (tableEntry l2 s p (i + k)))) 1 (λ k l. let z : i + k ≡ i = omega arith in rw (z, a .holds) refl)
 
-  fit-target : unfitTarget pages s p i t q ≡ false
+  fit-target : unfitTarget s p i t 1 q ≡ false
   unfolding unfitTarget
   fit-target =
       rw (inside (base s) (blocks s) t 1 (a .low) (omega arith), one-block t (λ b. neqb (typeOf s b) typeD) (same (typeOf s t) typeD (type-told r t (a .low) (a .high) ∙ a .free)), and-false (allows q write))
@@ -180,28 +180,28 @@ module _ {h : Told} {s : Store} (r : Running h s) {p i t q : ℕ} (a : Alone (ba
       let (lo, hi) = among-within t 1 (holder p i) (and-true-right (allows q execute) (among t 1 (holder p i)) e) in
       other r a (omega (arith, own-holder r a))))
 
-  clear-target : clashingTarget pages s t q ≡ false
+  clear-target : clashingTarget s t 1 q ≡ false
   unfolding clashingTarget
   clear-target =
       let (w, x) = uncounted in
       let none : (c : Counter) → recorded s c (t - base s) ≡ 0 → someBlock t 1 (λ b. above (counter c s b) 0) ≡ false = λ c z. one-block t (λ b. above (counter c s b) 0) (le-ltb 0 (counter c s t) (omega (arith, z))) in
       rw (grantable-lawful g .1, none executable x, none writable w, and-false (allows q write)) (and-false (allows q execute))
 
-  signed-target : unsignedTarget pages (h .golden) s t q ≡ false
+  signed-target : unsignedTarget (h .golden) s t 1 q ≡ false
   unfolding unsignedTarget unknown
   signed-target = rw (one-block t (unknown (h .golden) s) (rw (a .signs) (and-false (not (marked s t))))) (and-false (allows q execute))
 
-  map-passes : Passed (take 14 (mapRefusals pages (h .golden) s p i t q))
+  map-passes : Passed (take 15 (mapRefusals pages (h .golden) s p i t q firstKind))
   map-passes =
-      step (no-misfit r) (step image (step (table-inside r a) (step (same (p % 1) 0 (mod-one p)) (step (same (t % 1) 0 (mod-one t)) (step (same (i % 1) 0 (mod-one i)) (step (lt-leb (tableEntries l2) i (a .index)) (step (typed r a) (step (unexecuted r a)
-      (step vacant (step (grantable-lawful g .0) (step fit-target (step clear-target (step signed-target done)))))))))))))
+      step (no-misfit r) (step image (step (table-inside r a) (step (same (p % 1) 0 (mod-one p)) (step (same (t % 1) 0 (mod-one t)) (step (same (i % 1) 0 (mod-one i)) (step (lt-leb (tableEntries l2) i (a .index)) (step refl (step (typed r a) (step (unexecuted r a)
+      (step vacant (step (grantable-lawful g .0) (step fit-target (step clear-target (step signed-target done))))))))))))))
 
-  map-alone : Alone (base s) h (mapAccepted pages s p i t q .store) p i t (page t q)
+  map-alone : Alone (base s) h (mapAccepted pages s p i t q firstKind .store) p i t (page t q)
   unfolding endValue num coverFirst placeFirst coverBlocks placeBlocks
   map-alone =
       let (w, x) = uncounted in
       let spared : gives executable (page t q) p ≡ false = false-unless (gives executable (page t q) p) (λ e. let (_, lo, hi) = gives-within executable (page t q) p e in other r a (omega arith)) in
-      edit-alone r a added (λ k. page t q) (page t q) (marks-both (marks-clear _ (holder p i - base s)) (marks-set _ _ (blocks s))) (a-page (omega (arith, r .fit .physical)) g) (omega arith) (rw spared (omega (arith, a .holder-unexecuted)))
+      edit-alone r a (storedKind s firstKind) added (λ k. page t q) (page t q) (marks-both (marks-clear _ (holder p i - base s)) (marks-set _ _ (blocks s))) (a-page (omega (arith, r .fit .physical)) g) (omega arith) (rw spared (omega (arith, a .holder-unexecuted)))
 
 -- One step
 
@@ -224,11 +224,11 @@ module _ {h : Told} {s : Store} (r : Running h s) {p i t : ℕ} where
       let a = subst (λ (b : ℕ). Alone b h s p i t e) (r .told-base) alone in
       goes r (taken r (unmaps pages p i) _ (leaving (unmapAfter pages s p i)) refl (unmap-passes r a)) refl (unmap-alone r a)
 
-  pub map-goes : {q : ℕ} → misfitImage (h .golden) ≡ false → Grantable q → Alone (h .B) h s p i t fault → Went h s (maps pages p i t q) p i t (page t q)
+  pub map-goes : {q : ℕ} → misfitImage (h .golden) ≡ false → Grantable q → Alone (h .B) h s p i t fault → Went h s (maps pages p i t q firstKind) p i t (page t q)
   unfolding obey mapOutcome afterAccepted
   map-goes {q} image g alone =
       let a = subst (λ (b : ℕ). Alone b h s p i t fault) (r .told-base) alone in
-      goes r (taken r (maps pages p i t q) _ (mapAccepted pages s p i t q) refl (map-passes r a image g)) refl (map-alone r a image g)
+      goes r (taken r (maps pages p i t q firstKind) _ (mapAccepted pages s p i t q firstKind) refl (map-passes r a image g)) refl (map-alone r a image g)
 
 -- A page that is mapped to be read and written
 

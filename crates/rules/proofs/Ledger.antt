@@ -7,11 +7,22 @@ use Prim.Native.Nat.{ℕ, zero, suc, _+_, _*_, _^_, _<_, _≤_}
 use native.Mathlib.Decide.{ℕ-discrete}
 use native.Mathlib.Omega.{arith}
 use lib.ListN.{length}
+use Rattle.words.specs.Lists.{putList}
 use Rattle.words.specs.Words.{word, putWord}
 use Rattle.words.proofs.Bounded.{last-or-below, below-or-above, among-in, among-out}
-use Rattle.words.proofs.Words.{length-putWord, word-putWord-same, word-putWord-other}
-use Rattle.rules.specs.Store.{ledgerHeadBytes, ledgerRecordBytes, recordWord, putRecordWord, typeWord, Counter, writable, executable, linked, counterWord, markWord, markValue, retype, putCounters, recount, clearMark, clearMarks, markBlocks}
+use Rattle.words.proofs.Lists.{part-same, part-putList, getD-putList-other}
+use Rattle.words.proofs.Words.{length-putWord, getD-putWord-other, word-cong, word-putWord-same, word-putWord-other}
+use Rattle.rules.specs.Store.{ledgerHeadBytes, ledgerRecordBytes, kindsPlace, kindsBytes, kindsOf, recordWord, putRecordWord, typeWord, Counter, writable, executable, linked, counterWord, markWord, markValue, retype, putCounters, recount, clearMark, clearMarks, markBlocks}
 use Rattle.rules.specs.Steps.{typed}
+
+-- The kinds
+
+-- a word that is stored beside them
+pub kinds-putWord : (led : List ℕ) (a v : ℕ) → (a + 4 ≤ kindsPlace) ⊎ (ledgerHeadBytes ≤ a) → kindsOf (putWord led a v) ≡ kindsOf led
+unfolding kindsOf
+kinds-putWord led a v beside =
+    part-same (putWord led a v) led kindsPlace kindsBytes (length-putWord led a v)
+    (λ i l. getD-putWord-other led a v (kindsPlace + i) (λ h. ⊎-elim (λ (b : a + 4 ≤ kindsPlace). omega arith) (λ (b : ledgerHeadBytes ≤ a). omega arith) beside))
 
 -- One word of a record
 
@@ -51,6 +62,10 @@ module _ (led : List ℕ) (k b v : ℕ) where
   unfolding putRecordWord
   head-putRecordWord a h = word-putWord-other led (ledgerHeadBytes + ledgerRecordBytes * b + 4 * k) v a (λ l. omega arith)
 
+  pub kinds-putRecordWord : kindsOf (putRecordWord led k b v) ≡ kindsOf led
+  unfolding putRecordWord
+  kinds-putRecordWord = kinds-putWord led (ledgerHeadBytes + ledgerRecordBytes * b + 4 * k) v (inr (omega arith))
+
   pub recordWord-put-same : InRecord k → (n : ℕ) → length led ≡ ledgerHeadBytes + ledgerRecordBytes * n → b < n → v < 2 ^ 32 → recordWord (putRecordWord led k b v) k b ≡ v
   unfolding recordWord putRecordWord
   recordWord-put-same i n e l h = word-putWord-same led (ledgerHeadBytes + ledgerRecordBytes * b + 4 * k) v (omega arith) h
@@ -64,6 +79,16 @@ module _ (led : List ℕ) (k b v : ℕ) where
 pub recordWord-put-head : (led : List ℕ) (a v k b : ℕ) → a + 4 ≤ ledgerHeadBytes → recordWord (putWord led a v) k b ≡ recordWord led k b
 unfolding recordWord
 recordWord-put-head led a v k b h = word-putWord-other led a v (ledgerHeadBytes + ledgerRecordBytes * b + 4 * k) (λ l. omega arith)
+
+-- sixteen bytes stored as the kinds
+module _ (led kinds : List ℕ) (sixteen : length kinds ≡ kindsBytes) where
+  pub recordWord-put-kinds : (k b : ℕ) → recordWord (putList led kindsPlace kinds) k b ≡ recordWord led k b
+  unfolding recordWord
+  recordWord-put-kinds k b = word-cong (putList led kindsPlace kinds) led (ledgerHeadBytes + ledgerRecordBytes * b + 4 * k) (λ i lo hi. getD-putList-other led kindsPlace kinds i (λ h. omega arith))
+
+  pub kinds-put : ledgerHeadBytes ≤ length led → kindsOf (putList led kindsPlace kinds) ≡ kinds
+  unfolding kindsOf
+  kinds-put h = rw sixteen at (part-putList led kindsPlace kinds (omega arith))
 
 -- Types
 
@@ -88,6 +113,9 @@ module _ (led : List ℕ) (b m t : ℕ) where
 
   pub head-retype : (a : ℕ) → a + 4 ≤ ledgerHeadBytes → word (retype led b m t) a ≡ word led a
   head-retype a h = retype-keeps (λ l. word l a) led b m t (λ l c lo hi. head-putRecordWord l typeWord c t a h)
+
+  pub kinds-retype : kindsOf (retype led b m t) ≡ kindsOf led
+  kinds-retype = retype-keeps kindsOf led b m t (λ l c lo hi. kinds-putRecordWord l typeWord c t)
 
   pub counter-retype : (c : Counter) (j : ℕ) → recordWord (retype led b m t) (counterWord c) j ≡ recordWord led (counterWord c) j
   counter-retype c j =
@@ -124,6 +152,9 @@ module _ (led : List ℕ) (n : ℕ) (f : Counter → ℕ → ℕ) where
 
   pub head-recount : (a : ℕ) → a + 4 ≤ ledgerHeadBytes → word (recount led n f) a ≡ word led a
   head-recount a h = recount-keeps (λ l. word l a) led n f (λ l c b v i. head-putRecordWord l (counterWord c) b v a h)
+
+  pub kinds-recount : kindsOf (recount led n f) ≡ kindsOf led
+  kinds-recount = recount-keeps kindsOf led n f (λ l c b v i. kinds-putRecordWord l (counterWord c) b v)
 
   pub type-recount : (j : ℕ) → recordWord (recount led n f) typeWord j ≡ recordWord led typeWord j
   type-recount j =
@@ -181,6 +212,7 @@ counter-recount led (suc k) n f e le c b l h =
 pub record OnlyMarks (led after : List ℕ) : Type 0 where
   pub length-is : length after ≡ length led
   pub head-is : (a : ℕ) → a + 4 ≤ ledgerHeadBytes → word after a ≡ word led a
+  pub kinds-are : kindsOf after ≡ kindsOf led
   pub type-is : (b : ℕ) → recordWord after typeWord b ≡ recordWord led typeWord b
   pub counter-is : (c : Counter) (b : ℕ) → recordWord after (counterWord c) b ≡ recordWord led (counterWord c) b
 
@@ -189,18 +221,20 @@ marks-put led b v =
     record {
       length-is = length-putRecordWord led markWord b v;
       head-is = head-putRecordWord led markWord b v;
+      kinds-are = kinds-putRecordWord led markWord b v;
       type-is = λ j. recordWord-put-other led markWord b v typeWord j (omega arith) (omega arith) (λ _ e. omega arith);
       counter-is = λ c j. recordWord-put-other led markWord b v (counterWord c) j (omega arith) (counter-in-record c) (λ _. counter-not-mark c);
     }
 
 pub marks-none : (led : List ℕ) → OnlyMarks led led
-marks-none led = record { length-is = refl; head-is = λ a h. refl; type-is = λ b. refl; counter-is = λ c b. refl }
+marks-none led = record { length-is = refl; head-is = λ a h. refl; kinds-are = refl; type-is = λ b. refl; counter-is = λ c b. refl }
 
 pub marks-both : {led middle after : List ℕ} → OnlyMarks led middle → OnlyMarks middle after → OnlyMarks led after
 marks-both f g =
     record {
       length-is = g .length-is ∙ f .length-is;
       head-is = λ a h. g .head-is a h ∙ f .head-is a h;
+      kinds-are = g .kinds-are ∙ f .kinds-are;
       type-is = λ b. g .type-is b ∙ f .type-is b;
       counter-is = λ c b. g .counter-is c b ∙ f .counter-is c b;
     }

@@ -39,3 +39,4 @@ pub mod Edges
 pub mod LargeWitnesses
 pub mod MarkWitnesses
 pub mod Ascending
+pub mod KeptKinds

@@ -8,6 +8,7 @@ use borrow.Author.Tests.{leb-false}
 use Rattle.words.specs.Bounded.{above}
 use Rattle.entries.specs.Entries.{fault, l1, l2, isFault, isUnaccepted, isLink, isSection, isPage, rights, placeFirst, coverFirst, placeBlocks, coverBlocks, blockTables}
 use Rattle.entries.specs.Rights.{allows}
+use Rattle.entries.specs.Written.{kindless}
 use Rattle.entries.proofs.RoundTrip.{Encodable, singly, a-link}
 use Rattle.rules.specs.Store.{Store, blocks, base, Counter, writable, executable, linked, typeOf}
 use Rattle.rules.specs.Tables.{typeCode, tableBlocks, wordIndex, grants, gives, gain, astray}
@@ -19,7 +20,7 @@ use Rattle.rules.specs.Box.{grantsWrite}
 use Rattle.rules.proofs.Refusals.{Passed, front, now, rest}
 use Rattle.rules.proofs.Gains.{gives-within, gain-none}
 use Rattle.rules.proofs.Consistent.{Suits, Sound}
-use Rattle.rules.proofs.State.{typeAt, recorded, Fit, fits, Running, equal, within, type-told, Goes, Next, next-13}
+use Rattle.rules.proofs.State.{typeAt, recorded, Fit, fits-stored, Running, equal, within, type-told, Goes, Next, next-13}
 use Rattle.rules.proofs.Changes.{adds}
 use Rattle.rules.proofs.Edits.{Apart, as-singles, slot, Harmless, enters}
 
@@ -45,7 +46,7 @@ linkable s p i t j t1 =
     let t8 = rest t7 in
     let t10 = rest t8 in
     record {
-      region = fits s (base s) (now t1);
+      region = fits-stored s (now t1);
       table-inside = now t2;
       index-inside = now t4;
       typed = now t5;
@@ -95,11 +96,11 @@ module _ (p i t j : ℕ) {h : Told} {s : Store} (r : Running h s) (can : Linkabl
   unfolding isFault isSection isLink isPage
   link-beside = as-singles (λ k _. (refl, refl))
 
-  linked-to : (someOverrun added s 1 (λ k. linkTo t j) ≡ false) × Goes (grantsWrite s (links p i t j)) h s (entered s p i 1 (λ k. linkTo t j))
+  linked-to : (someOverrun added s 1 (λ k. linkTo t j) ≡ false) × Goes (grantsWrite s (links p i t j)) h s (entered kindless s p i 1 (λ k. linkTo t j))
   unfolding grantsWrite grants allows rights
   linked-to =
       let sl = slot r l1 p i 1 (omega arith) (can .table-inside) (can .index-inside) (can .typed) (can .unexecuted-holder) in
-      let (change, fresh) = enters r l1 p i 1 sl (λ k. linkTo t j) link-harmless (link-written (wordIndex s p i) can) link-beside (can .free) (λ k l. link-sound) in
+      let (change, fresh) = enters r l1 p i 1 sl (λ k. linkTo t j) link-harmless kindless (link-written (wordIndex s p i) can) link-beside (can .free) (λ k l. link-sound) in
       let (no-13, goes) = adds r change fresh in
       let none : (q : ℕ) → above (gain 1 (λ k. linkTo t j) writable q) 0 ≡ false = λ q. rw (link-gives writable q refl) refl in
       let g = goes .grows in
@@ -108,5 +109,5 @@ module _ (p i t j : ℕ) {h : Told} {s : Store} (r : Running h s) (can : Linkabl
 pub link-next : (p i t j : ℕ) {h : Told} {s : Store} → Running h s → Next h s (links p i t j) (linkOutcome s p i t j)
 unfolding linkOutcome afterAccepted
 link-next p i t j {h} {s} r =
-    next-13 (links p i t j) (leaving (entered s p i 1 (λ k. linkTo t j))) (linkRefusals s p i t j) r (omega arith) (omega arith) (omega arith)
+    next-13 (links p i t j) (leaving (entered kindless s p i 1 (λ k. linkTo t j))) (linkRefusals s p i t j) r (omega arith) (omega arith) (omega arith)
     (λ tests. linked-to p i t j r (linkable s p i t j tests))

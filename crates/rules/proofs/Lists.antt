@@ -81,9 +81,9 @@ module _ (by : Store → Step → Outcome) (Good : Told → Store → List Step 
     answered s (step ∷ steps) zero k e = (step, refl)
     answered s (step ∷ steps) (suc i) k e = answered (by s step .after) steps i k e
 
-    -- lists 7 to 12 and 14, of a list that starts from a good state
-    pub claimed : (golden : List ℕ) {B : ℕ} {s : Store} (steps : List Step) → Good (begun B golden) s steps → Claim by golden B s steps
-    claimed golden {B} {s} steps g =
+    -- lists 7 to 12, 14 and 15, of a list that starts from a good state
+    pub claimed : (golden : List ℕ) {kinds : List ℕ} {B : ℕ} {s : Store} (steps : List Step) → Good (begun kinds B golden) s steps → Claim by golden kinds B s steps
+    claimed golden {kinds} {B} {s} steps g =
         record {
           safe = λ i. safe (reached steps g i);
           guarded = λ i a addr e.

@@ -18,13 +18,13 @@ use Rattle.rules.specs.Store.{Store, blocks, base, recordWord, Counter, 
 use Rattle.rules.specs.Signature.{unknown}
 use Rattle.rules.specs.Tables.{typeD, typeCode, Form, sections, pages, larges, level, targetBlocks, mappingWords, mapping, wordIndex, grants, gives, gain, astray}
 use Rattle.rules.specs.General.{tableOutside, misaligned, beyondTable, otherType, executableHolder, occupied, holder, added, someOverrun}
-use Rattle.rules.specs.Map.{unfitTarget, clashingTarget, unsignedTarget, mapRefusals, mapAccepted, mapOutcome}
+use Rattle.rules.specs.Map.{unfitTarget, clashingTarget, unsignedTarget, storedKind, mapRefusals, mapAccepted, mapOutcome}
 use Rattle.rules.specs.Steps.{maps, Told, afterAccepted}
 use Rattle.rules.specs.Box.{grantsWrite}
 use Rattle.rules.proofs.Refusals.{Passed, front, passed, passed-front, now, rest}
 use Rattle.rules.proofs.Gains.{gives-within, gain-none, gain-found}
 use Rattle.rules.proofs.Consistent.{Suits, Sound}
-use Rattle.rules.proofs.State.{Fit, fits, Running, equal, within, no-block-at, type-told, known-signed, Goes, Next, next-13, settle-accepted}
+use Rattle.rules.proofs.State.{Fit, fits-stored, Running, equal, within, no-block-at, type-told, known-signed, Goes, Next, next-13, settle-accepted}
 use Rattle.rules.proofs.Changes.{counter-none, adds, admits}
 use Rattle.rules.proofs.Edits.{Apart, as-run, as-singles, slot, words-in-block, Harmless, enters}
 
@@ -124,7 +124,7 @@ module _ (f : Form) (golden : List ℕ) (s : Store) (p i t q : ℕ) where
     pub data-only : writes ≡ true → over notD ≡ false
     pub not-holder : executes ≡ true → t ≤ holder p i → holder p i < t + targetBlocks f → ⊥
 
-  fitting : unfitTarget f s p i t q ≡ false → Fitting
+  fitting : unfitTarget s p i t (targetBlocks f) q ≡ false → Fitting
   unfolding unfitTarget
   fitting e =
       let out = outside (base s) (blocks s) t (targetBlocks f) in
@@ -145,7 +145,7 @@ module _ (f : Form) (golden : List ℕ) (s : Store) (p i t q : ℕ) where
     pub unexecuted : writes ≡ true → over (counts executable) ≡ false
     pub unwritten : executes ≡ true → over (counts writable) ≡ false
 
-  alone : clashingTarget f s t q ≡ false → Alone
+  alone : clashingTarget s t (targetBlocks f) q ≡ false → Alone
   unfolding clashingTarget
   alone e =
       let both = writes && executes in
@@ -174,17 +174,17 @@ module _ (f : Form) (golden : List ℕ) (s : Store) (p i t q : ℕ) where
     pub free : occupied (level f) s p i (mappingWords f) ≡ false
     pub fits-target : Fitting
     pub apart : Alone
-    pub signed : unsignedTarget f golden s t q ≡ false
+    pub signed : unsignedTarget golden s t (targetBlocks f) q ≡ false
     pub written : Encodable (level f) (wordIndex s p i) (mappingWords f) (mapping f t q)
     pub beside : Apart (wordIndex s p i) (mappingWords f) (λ k. fault) (mapping f t q)
 
-  pub mappable : Passed (front (mapRefusals f golden s p i t q)) → Mappable
-  mappable t1 =
+  pub mappable : (number : ℕ) → Passed (front (mapRefusals f golden s p i t q number)) → Mappable
+  mappable number t1 =
       let t2 = rest (rest t1) in
       let t3 = rest (rest t2) in
       let t3′ = rest t3 in
       let t4 = rest t3′ in
-      let t5 = rest t4 in
+      let t5 = rest (rest t4) in
       let t7 = rest t5 in
       let t8 = rest t7 in
       let t9 = rest t8 in
@@ -192,7 +192,7 @@ module _ (f : Form) (golden : List ℕ) (s : Store) (p i t q : ℕ) where
       let t11 = rest t10 in
       let fit = fitting (now t10) in
       let apart = alone (now t11) in
-      let region = fits s (base s) (now t1) in
+      let region = fits-stored s (now t1) in
       let (low, high) = within (base s) (blocks s) t (targetBlocks f) (fit .in-region) in
       let multiple = word-aligned f s p i (now t3′) in
       record {
@@ -267,24 +267,24 @@ module _ (f : Form) (p i t q : ℕ) {h : Told} {s : Store} (r : Running h s) (ca
             can .fits-target .not-holder (sym (mapping-grants t q k f .1) ∙ gives-within executable (x k) (holder p i) g .0) lo hi));
       }
 
-  mapped : (someOverrun added s m x ≡ false) × Goes (grantsWrite s (maps f p i t q)) h s (mapAccepted f s p i t q .store)
+  mapped : (number : ℕ) → (someOverrun added s m x ≡ false) × Goes (grantsWrite s (maps f p i t q number)) h s (mapAccepted f s p i t q number .store)
   unfolding grantsWrite
-  mapped =
+  mapped number =
       let sl = slot r (level f) p i m (words-in-block f i (can .aligned)) (can .table-inside) (can .index-inside) (can .typed) (can .unexecuted-holder) in
-      let (change, fresh) = enters r (level f) p i m sl x map-harmless (can .written) (can .beside) (can .free) map-sound in
+      let (change, fresh) = enters r (level f) p i m sl x map-harmless (storedKind s number) (can .written) (can .beside) (can .free) map-sound in
       adds r (admits change) fresh
 
-pub map-next : (f : Form) (p i t q : ℕ) {h : Told} {s : Store} → Running h s → Next h s (maps f p i t q) (mapOutcome f (h .golden) s p i t q)
+pub map-next : (f : Form) (p i t q number : ℕ) {h : Told} {s : Store} → Running h s → Next h s (maps f p i t q number) (mapOutcome f (h .golden) s p i t q number)
 unfolding mapOutcome afterAccepted
-map-next f p i t q {h} {s} r =
-    next-13 (maps f p i t q) (mapAccepted f s p i t q) (mapRefusals f (h .golden) s p i t q) r (omega arith) (omega arith) (omega arith)
-    (λ tests. mapped f p i t q r (mappable f (h .golden) s p i t q tests))
+map-next f p i t q number {h} {s} r =
+    next-13 (maps f p i t q number) (mapAccepted f s p i t q number) (mapRefusals f (h .golden) s p i t q number) r (omega arith) (omega arith) (omega arith)
+    (λ tests. mapped f p i t q r (mappable f (h .golden) s p i t q number tests) number)
 
 -- an accepted map has the places of its entries in the region
-pub map-placed : (f : Form) (golden : List ℕ) (s : Store) (p i t q : ℕ) → mapOutcome f golden s p i t q .answer ≡ 0
+pub map-placed : (f : Form) (golden : List ℕ) (s : Store) (p i t q number : ℕ) → mapOutcome f golden s p i t q number .answer ≡ 0
     → (k : ℕ) → k < mappingWords f → astray (base s) (blocks s) (mapping f t q k) ≡ false
 unfolding mapOutcome
-map-placed f golden s p i t q zero-is =
-    let rs = mapRefusals f golden s p i t q in
-    let can = mappable f golden s p i t q (passed-front rs (passed rs (omega arith) (settle-accepted s (mapAccepted f s p i t q) (answerOf rs) zero-is .0))) in
+map-placed f golden s p i t q number zero-is =
+    let rs = mapRefusals f golden s p i t q number in
+    let can = mappable f golden s p i t q number (passed-front rs (passed rs (omega arith) (settle-accepted s (mapAccepted f s p i t q number) (answerOf rs) zero-is .0))) in
     target-inside f golden s p i t q (can .fits-target) (can .target-aligned)

@@ -3,18 +3,19 @@ use mathlib.Core.List.{List, [], _∷_}
 use mathlib.Core.Path.{_≡_, refl}
 use Prim.Native.Nat.{ℕ}
 use native.Mathlib.Omega.{arith}
+use Rattle.words.specs.Lists.{part}
 use Rattle.words.specs.Bounded.{any, sum, num}
 use Rattle.words.specs.Words.{word, putWord}
 use Rattle.signature.specs.Signed.{misfitImage}
 use Rattle.entries.specs.Entries.{page, l2, l2Entry, isFault, isLink, rights, placeFirst, coverFirst, placeBlocks, coverBlocks, covers}
 use Rattle.entries.specs.Rights.{allows, unlawfulRights}
 use Rattle.rules.specs.Refusals.{answerOf}
-use Rattle.rules.specs.Store.{basePlace, recordWord, putRecordWord, markWord, someCounter, outside, someBlock}
+use Rattle.rules.specs.Store.{basePlace, recordWord, putRecordWord, markWord, someCounter, outside, someBlock, kindsOf}
 use Rattle.rules.specs.Outcomes.{settle}
 use Rattle.rules.specs.Tables.{tableEntries, pages, grants, gives, gain}
 use Rattle.rules.specs.Signature.{unknown}
 use Rattle.rules.specs.General.{endValue, endsBelow, overruns, someOverrun, hashedBlocks}
-use Rattle.rules.specs.Map.{mapOutcome, unfitTarget, clashingTarget, unsignedTarget}
+use Rattle.rules.specs.Map.{mapOutcome, unfitTarget, clashingTarget, unsignedTarget, firstKind}
 use Rattle.rules.specs.Forget.{forgetOutcome, strayBlocks}
 use Rattle.rules.specs.Steps.{forgets, obey}
 use Rattle.rules.proofs.SmallStores.{memory, length-memory, first-entry, ledger, smallStore, fit, unfit, oneL2, unsigned}
@@ -26,12 +27,12 @@ use Rattle.rules.proofs.Blank.{golden, lawful, page-signed}
 -- a stored B that is no multiple of 256
 forget-1 : answers [] (smallStore 0 (putWord ledger basePlace 1)) (forgets 0 0 ∷ []) ≡ (1 ∷ [])
 unfolding answers obey forgetOutcome settle answerOf word putWord
-forget-1 = rw (unfit 0 (putWord ledger basePlace 1) refl) refl
+forget-1 = rw (unfit 0 (putWord ledger basePlace 1) refl refl) refl
 
 -- the last block and one behind it; the last block; none, behind the region
 forget-2-and-0 : answers [] (smallStore 0 ledger) (forgets 7 2 ∷ forgets 7 1 ∷ forgets 9 0 ∷ []) ≡ (2 ∷ 0 ∷ 0 ∷ [])
-unfolding answers obey forgetOutcome settle answerOf strayBlocks outside word
-forget-2-and-0 = rw (fit 0 ledger refl, length-memory 0) refl
+unfolding answers obey forgetOutcome settle answerOf strayBlocks outside word kindsOf part
+forget-2-and-0 = rw (fit 0 ledger (refl, refl) refl, length-memory 0) refl
 
 -- Map L2 of block 5 with execute
 
@@ -40,18 +41,18 @@ abbrev marked5 : ℕ → List ℕ
 marked5 k = putRecordWord oneL2 markWord 5 k
 
 -- under an empty image a mark of 1 is believed, and nothing is hashed
-mark-1 : (mapOutcome pages [] (smallStore 0 (marked5 1)) 0 0 5 5 .answer ≡ 0) × (mapOutcome pages [] (smallStore 0 (marked5 1)) 0 0 5 5 .hashed ≡ 0)
-unfolding mapOutcome settle answerOf outside someBlock any sum num recordWord putRecordWord word putWord misfitImage l2Entry isFault unlawfulRights allows unfitTarget clashingTarget unsignedTarget unknown someOverrun someCounter overruns endValue endsBelow gain gives grants rights isLink covers coverFirst placeFirst coverBlocks placeBlocks hashedBlocks
-mark-1 = let (_, e) = first-entry 0 (omega arith) in rw (fit 0 (marked5 1) refl, length-memory 0, e) (refl, refl)
+mark-1 : (mapOutcome pages [] (smallStore 0 (marked5 1)) 0 0 5 5 firstKind .answer ≡ 0) × (mapOutcome pages [] (smallStore 0 (marked5 1)) 0 0 5 5 firstKind .hashed ≡ 0)
+unfolding mapOutcome settle answerOf outside someBlock any sum num recordWord putRecordWord word putWord misfitImage l2Entry isFault unlawfulRights allows unfitTarget clashingTarget unsignedTarget unknown someOverrun someCounter overruns endValue endsBelow gain gives grants rights isLink covers coverFirst placeFirst coverBlocks placeBlocks hashedBlocks kindsOf part
+mark-1 = let (_, e) = first-entry 0 (omega arith) in rw (fit 0 (marked5 1) (refl, refl) refl, length-memory 0, e) (refl, refl)
 
 -- a mark of 2 is not; under an image that signs the block it is hashed
-mark-2 : mapOutcome pages [] (smallStore 0 (marked5 2)) 0 0 5 5 .answer ≡ 12
-unfolding mapOutcome settle answerOf outside someBlock any recordWord putRecordWord word putWord misfitImage l2Entry isFault unlawfulRights allows unfitTarget clashingTarget unsignedTarget unknown
-mark-2 = let (_, e) = first-entry 0 (omega arith) in rw (fit 0 (marked5 2) refl, length-memory 0, e, unsigned (memory 0) 0 5) refl
+mark-2 : mapOutcome pages [] (smallStore 0 (marked5 2)) 0 0 5 5 firstKind .answer ≡ 12
+unfolding mapOutcome settle answerOf outside someBlock any recordWord putRecordWord word putWord misfitImage l2Entry isFault unlawfulRights allows unfitTarget clashingTarget unsignedTarget unknown kindsOf part
+mark-2 = let (_, e) = first-entry 0 (omega arith) in rw (fit 0 (marked5 2) (refl, refl) refl, length-memory 0, e, unsigned (memory 0) 0 5) refl
 
-mark-2-signed : (mapOutcome pages golden (smallStore 0 (marked5 2)) 0 0 5 5 .answer ≡ 0) × (mapOutcome pages golden (smallStore 0 (marked5 2)) 0 0 5 5 .hashed ≡ 1)
-unfolding mapOutcome settle answerOf outside someBlock any sum num recordWord putRecordWord word putWord l2Entry isFault unlawfulRights allows unfitTarget clashingTarget unsignedTarget unknown someOverrun someCounter overruns endValue endsBelow gain gives grants rights isLink covers coverFirst placeFirst coverBlocks placeBlocks hashedBlocks
-mark-2-signed = let (_, e) = first-entry 0 (omega arith) in rw (fit 0 (marked5 2) refl, lawful, length-memory 0, e, page-signed) (refl, refl)
+mark-2-signed : (mapOutcome pages golden (smallStore 0 (marked5 2)) 0 0 5 5 firstKind .answer ≡ 0) × (mapOutcome pages golden (smallStore 0 (marked5 2)) 0 0 5 5 firstKind .hashed ≡ 1)
+unfolding mapOutcome settle answerOf outside someBlock any sum num recordWord putRecordWord word putWord l2Entry isFault unlawfulRights allows unfitTarget clashingTarget unsignedTarget unknown someOverrun someCounter overruns endValue endsBelow gain gives grants rights isLink covers coverFirst placeFirst coverBlocks placeBlocks hashedBlocks kindsOf part
+mark-2-signed = let (_, e) = first-entry 0 (omega arith) in rw (fit 0 (marked5 2) (refl, refl) refl, lawful, length-memory 0, e, page-signed) (refl, refl)
 
 -- The number of a table
 

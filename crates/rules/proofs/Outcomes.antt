@@ -21,9 +21,9 @@ unfolding settle
 settle-byte zero old new e = sym e
 settle-byte (suc k) old new e = refl
 
-pub begin-byte : (s : Store) (B : ℕ) → 0 ≡ beginOutcome s B .byte
+pub begin-byte : (s : Store) (kinds : List ℕ) (B : ℕ) → 0 ≡ beginOutcome s kinds B .byte
 unfolding beginOutcome
-begin-byte s B = settle-byte _ _ _ refl
+begin-byte s kinds B = settle-byte _ _ _ refl
 
 pub create-byte : (v : Level) (golden : List ℕ) (s : Store) (p : ℕ) → 0 ≡ createOutcome v golden s p .byte
 unfolding createOutcome
@@ -33,9 +33,9 @@ pub free-byte : (v : Level) (s : Store) (p : ℕ) → 0 ≡ freeOutcome v s p .b
 unfolding freeOutcome
 free-byte v s p = settle-byte _ _ _ refl
 
-pub map-byte : (f : Form) (golden : List ℕ) (s : Store) (p i t r : ℕ) → 0 ≡ mapOutcome f golden s p i t r .byte
+pub map-byte : (f : Form) (golden : List ℕ) (s : Store) (p i t r k : ℕ) → 0 ≡ mapOutcome f golden s p i t r k .byte
 unfolding mapOutcome
-map-byte f golden s p i t r = settle-byte _ _ _ refl
+map-byte f golden s p i t r k = settle-byte _ _ _ refl
 
 pub link-byte : (s : Store) (p i t j : ℕ) → 0 ≡ linkOutcome s p i t j .byte
 unfolding linkOutcome

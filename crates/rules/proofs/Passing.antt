@@ -14,7 +14,7 @@ use Rattle.words.proofs.Bounded.{any-avoids, same}
 use Rattle.entries.specs.Entries.{Level, l1}
 use Rattle.entries.specs.Rights.{allows}
 use Rattle.rules.specs.Refusals.{Refusal, _if_, answerOf}
-use Rattle.rules.specs.Store.{blockBytes, leastBlocks, mostBlocks, baseAlignment, physicalBlocks, ledgerHeadBytes, ledgerRecordBytes, Store, blocks, base, active, typeOf, someBlock, misfit}
+use Rattle.rules.specs.Store.{blockBytes, leastBlocks, mostBlocks, baseAlignment, physicalBlocks, ledgerHeadBytes, ledgerRecordBytes, Store, blocks, base, active, typeOf, someBlock, misfit, misfitStored}
 use Rattle.rules.specs.Outcomes.{Outcome, Accepted, leaving, settle, callOutcome}
 use Rattle.rules.specs.Tables.{typeCode, tableBlocks}
 use Rattle.rules.specs.General.{otherType}
@@ -63,8 +63,8 @@ one-block p q e = rw (add-zero p) e
 
 module _ {h : Told} {s : Store} (r : Running h s) where
   -- 1 does not apply
-  pub no-misfit : misfit s (base s) ≡ false
-  unfolding misfit
+  pub no-misfit : misfitStored s ≡ false
+  unfolding misfit misfitStored
   no-misfit =
       let f = r .fit in
       let n = blocks s in
@@ -75,6 +75,8 @@ module _ {h : Told} {s : Store} (r : Running h s) where
         same (length (s .ledger)) (ledgerHeadBytes + ledgerRecordBytes * n) (f .ledger-length),
         same (base s % baseAlignment) 0 (f .aligned),
         le-ltb physicalBlocks (base s + n) (f .physical),
+        r .kinds-are,
+        r .kinds-lawful,
       ) refl
 
   -- 5 does not apply

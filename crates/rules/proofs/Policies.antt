@@ -26,9 +26,9 @@ use Rattle.rules.proofs.Accessible.{exclusive, integrity, active, guest
 use Rattle.rules.proofs.Removals.{free-sound, unmap-sound}
 use Rattle.rules.proofs.InTurn.{in-turn}
 
-module _ (golden : List ℕ) {B : ℕ} {s : Store} (r : Running (begun B golden) s) (steps : List Step) where
+module _ (golden : List ℕ) {kinds : List ℕ} {B : ℕ} {s : Store} (r : Running (begun kinds B golden) s) (steps : List Step) where
   -- what holds of the guest's steps from running states
-  at-guest-steps : (P : Told → Store → Store → Type 0) → ((h : Told) (now : Store) → Running h now → (a : Access) (addr : ℕ) → P h now (guestOutcome a now addr .after)) → AtGuestSteps golden B s steps P
+  at-guest-steps : (P : Told → Store → Store → Type 0) → ((h : Told) (now : Store) → Running h now → (a : Access) (addr : ℕ) → P h now (guestOutcome a now addr .after)) → AtGuestSteps golden kinds B s steps P
   unfolding obey
   at-guest-steps P holds i a addr e =
       let m = moment golden refl r steps i (accesses a addr) e in
@@ -37,13 +37,13 @@ module _ (golden : List ℕ) {B : ℕ} {s : Store} (r : Running (begun B golden)
   -- what holds of a step's answer in every running state
   answered : (P : Told → Store → ℕ → Type 0) (step : Step) (refusals : Store → List Refusal) → ((now : Store) → obey golden now step .answer ≡ answerOf (refusals now))
       → ((h : Told) (now : Store) → Running h now → P h now (answerOf (refusals now)))
-      → (i k : ℕ) → getElem? steps i ≡ some step → getElem? (run golden s steps .answers) i ≡ some k → P (toldAt golden B s steps i) (storeAt golden s steps i) k
+      → (i k : ℕ) → getElem? steps i ≡ some step → getElem? (run golden s steps .answers) i ≡ some k → P (toldAt golden kinds B s steps i) (storeAt golden s steps i) k
   answered P step refusals is holds i k e given =
       let m = moment golden refl r steps i step e in
       let answer-is : k ≡ answerOf (refusals (m .store)) = cc (m .answer-is, given, is (m .store)) in
       rw (m .told-is, m .store-is, answer-is) (holds (m .told) (m .store) (m .good .1))
 
-  upheld : Policies golden B s steps
+  upheld : Policies golden kinds B s steps
   unfolding obey freeOutcome unmapOutcome
   upheld =
       record {
@@ -66,9 +66,9 @@ module _ (golden : List ℕ) {B : ℕ} {s : Store} (r : Running (begun B golden)
             (λ now. settle-answer _ now (leaving (unmapAfter f now p j))) (λ h now r. rw (r .told-base) (unmap-sound r f p j));
         in-turn = λ image p j t i w.
             subst (λ (g : List ℕ). misfitImage g ≡ false → run g (storeAt golden s steps i) (thereAndBack p j t) .answers ≡ (0 ∷ 0 ∷ 0 ∷ 0 ∷ []))
-            (history-golden (begun B golden) (take i steps) (run golden s steps .answers)) (λ lawful. in-turn (reached golden refl r steps i) lawful w) image;
+            (history-golden (begun kinds B golden) (take i steps) (run golden s steps .answers)) (λ lawful. in-turn (reached golden refl r steps i) lawful w) image;
       }
 
 -- whatever an accepted begin was lent, and whatever the steps behind it
 pub policies : Policies-hold
-policies golden start B accepted steps = upheld golden (begin-accepted start B golden accepted) steps
+policies golden start kinds B accepted steps = upheld golden (begin-accepted start kinds B golden accepted) steps

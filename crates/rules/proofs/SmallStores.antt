@@ -8,13 +8,13 @@ use native.Mathlib.Decide.{ℕ-discrete}
 use native.Mathlib.Omega.{arith}
 use lib.ListN.{length, getD, replicate, length-replicate, getD-replicate, List·getD-eq-default}
 use Rattle.words.specs.Bounded.{any}
-use Rattle.words.specs.Words.{word, putWord}
+use Rattle.words.specs.Words.{half, word, putWord}
 use Rattle.words.proofs.Bounded.{below-or-above}
 use Rattle.words.proofs.Words.{length-putWord, word-putWord-same, word-putWord-other}
 use Rattle.signature.specs.Signed.{signed, listed}
 use Rattle.entries.specs.Entries.{fault, Level, l1, l2, entryAt, l1Entry, l2Entry, isRun}
 use Rattle.entries.proofs.Decoding.{l2Entry-alone, isRun-broken, entryAt-fault}
-use Rattle.rules.specs.Store.{blockBytes, ledgerHeadBytes, ledgerRecordBytes, Store, recordWord, putRecordWord, retype, typeWord, counterWord, writable, misfit}
+use Rattle.rules.specs.Store.{blockBytes, kindsBytes, ledgerHeadBytes, ledgerRecordBytes, basePlace, Store, kindsOf, kindAt, unlawfulKinds, recordWord, putRecordWord, retype, typeWord, counterWord, writable, misfit, misfitStored}
 use Rattle.rules.specs.Signature.{signedBlock}
 use Rattle.rules.specs.Tables.{typeCode}
 
@@ -40,13 +40,26 @@ ledger = replicate (ledgerHeadBytes + ledgerRecordBytes * 8) 0
 abbrev pub smallStore : ℕ → List ℕ → Store
 smallStore w led = record { memory = memory w; ledger = led }
 
-pub fit : (w : ℕ) (led : List ℕ) → length led ≡ ledgerHeadBytes + ledgerRecordBytes * 8 → misfit (smallStore w led) 0 ≡ false
-unfolding misfit
-fit w led e = rw (length-memory w, e) refl
+-- a ledger for eight blocks, all of whose kinds are 0
+abbrev pub Plain : List ℕ → Type 0
+Plain led = (length led ≡ ledgerHeadBytes + ledgerRecordBytes * 8) × (kindsOf led ≡ replicate kindsBytes 0)
 
-pub unfit : (w : ℕ) (led : List ℕ) → length led ≡ ledgerHeadBytes + ledgerRecordBytes * 8 → misfit (smallStore w led) 1 ≡ true
+-- B 0 fits eight blocks, and B 1 does not, given or stored
+pub fit-given : (w : ℕ) (led : List ℕ) → length led ≡ ledgerHeadBytes + ledgerRecordBytes * 8 → misfit (smallStore w led) 0 ≡ false
 unfolding misfit
-unfit w led e = rw (length-memory w, e) refl
+fit-given w led e = rw (length-memory w, e) refl
+
+pub unfit-given : (w : ℕ) (led : List ℕ) → length led ≡ ledgerHeadBytes + ledgerRecordBytes * 8 → misfit (smallStore w led) 1 ≡ true
+unfolding misfit
+unfit-given w led e = rw (length-memory w, e) refl
+
+pub fit : (w : ℕ) (led : List ℕ) → Plain led → word led basePlace ≡ 0 → misfitStored (smallStore w led) ≡ false
+unfolding misfitStored unlawfulKinds any kindAt half
+fit w led (e, zero-kinds) based = rw (based, fit-given w led e, zero-kinds) refl
+
+pub unfit : (w : ℕ) (led : List ℕ) → length led ≡ ledgerHeadBytes + ledgerRecordBytes * 8 → word led basePlace ≡ 1 → misfitStored (smallStore w led) ≡ true
+unfolding misfitStored
+unfit w led e based = rw (based, unfit-given w led e) refl
 
 -- block 0 is an L2 block; blocks 0 to 3 are an L1 table
 abbrev pub oneL2 : List ℕ

@@ -13,7 +13,7 @@ use borrow.Author.Tests.{le-ltb, ltb-false, eqb-true, not-false}
 use Rattle.words.specs.Bounded.{above, neqb}
 use Rattle.words.proofs.Bounded.{or-false-left, or-false-right, or-cases, any-none, any-hit, any-found}
 use Rattle.entries.specs.Entries.{Entry, Level}
-use Rattle.rules.specs.Store.{blockBytes, blockWords, leastBlocks, mostBlocks, baseAlignment, physicalBlocks, ledgerHeadBytes, ledgerRecordBytes, noTable, Store, blocks, base, active, recordWord, typeWord, Counter, writable, executable, linked, counterWord, markWord, markValue, marked, someCounter, typeOf, outside, someBlock, misfit}
+use Rattle.rules.specs.Store.{blockBytes, blockWords, leastBlocks, mostBlocks, baseAlignment, physicalBlocks, ledgerHeadBytes, ledgerRecordBytes, noTable, Store, blocks, base, active, kindsOf, unlawfulKinds, recordWord, typeWord, Counter, writable, executable, linked, counterWord, markWord, markValue, marked, someCounter, typeOf, outside, someBlock, misfit, misfitStored}
 use Rattle.rules.specs.Outcomes.{Outcome, Accepted, settle, callOutcome}
 use Rattle.rules.specs.Refusals.{Refusal, answerOf}
 use Rattle.rules.specs.Signature.{signedBlock, unknown}
@@ -61,6 +61,11 @@ fits s B e =
       physical = ltb-false physicalBlocks (B + blocks s) (or-false-right (t1 || t2 || t3 || t4 || t5) t6 e);
     }
 
+-- so with what the ledger has
+pub fits-stored : (s : Store) → misfitStored s ≡ false → Fit (base s) (blocks s) s
+unfolding misfitStored
+fits-stored s e = fits s (base s) (or-false-left (misfit s (base s)) (unlawfulKinds (kindsOf (s .ledger))) e)
+
 pub fit-same : {B n : ℕ} {s : Store} (after : Store) → Fit B n s → length (after .memory) ≡ length (s .memory) → length (after .ledger) ≡ length (s .ledger) → Fit B n after
 fit-same after f m l =
     record { memory-length = m ∙ f .memory-length; ledger-length = l ∙ f .ledger-length; at-least = f .at-least; at-most = f .at-most; aligned = f .aligned; physical = f .physical }
@@ -93,6 +98,8 @@ pub record Inv (B n : ℕ) (h : Told) (s : Store) : Type 0 where
   pub fit : Fit B n s
   pub base-is : base s ≡ B
   pub active-is : active s ≡ activeWord (h .table)
+  pub kinds-are : kindsOf (s .ledger) ≡ h .kinds
+  pub kinds-lawful : unlawfulKinds (h .kinds) ≡ false
   pub types-are : (b : ℕ) → b < n → recordWord (s .ledger) typeWord b ≡ typeAt B h b
   pub root : (p : ℕ) → h .table ≡ some p → Root B n (h .types) p
   pub consistent : Consistent B n (typeAt B h) (entryOf B h (s .memory)) (signedAt B h (s .memory)) (recorded s)
@@ -108,7 +115,7 @@ module _ {B n : ℕ} {h : Told} {s : Store} (i : Inv B n h s) where
   pub running : Running h s
   running = subst₂ (λ b m. Inv b m h s) (sym (i .base-is)) (sym blocks-are) i
 
--- lists 7 to 9 and 14: the invariant says them of a moment
+-- lists 7 to 9, 14 and 15: the invariant says them of a moment
 pub safe : {h : Told} {s : Store} → Running h s → Safe h s
 unfolding afresh
 safe {h} {s} r = told-safe (subst (λ b. Inv b (blocks s) h s) (sym (r .told-base)) r) where
@@ -119,6 +126,7 @@ safe {h} {s} r = told-safe (subst (λ b. Inv b (blocks s) h s) (sym (r .told-bas
         exclusive = λ b l w x. omega (arith, k .exclusive b l (rw (k .counts-are writable b l) w), k .counts-are executable b l);
         signs = λ b l x. k .signs b l (rw (k .counts-are executable b l) x);
         honest = λ c b l. k .counts-are c b l;
+        kinds-kept = i .kinds-are;
         believed = i .believed;
       }
 

@@ -13,10 +13,10 @@ use Rattle.rules.specs.Tables.{typeD, typeCode, tableBlocks, tableEntrie
 use Rattle.rules.specs.General.{Change, added, removed, recounted, typeAfter, retyped}
 use Rattle.rules.specs.Steps.{Told, typed, Root}
 use Rattle.rules.proofs.Consistent.{Suits, Replaces, windowBefore, windowAfter}
-use Rattle.rules.proofs.Ledger.{length-retype, head-retype, counter-retype, type-retype-in, type-retype-out, typed-in, typed-out, mark-retype}
+use Rattle.rules.proofs.Ledger.{length-retype, head-retype, kinds-retype, counter-retype, type-retype-in, type-retype-out, typed-in, typed-out, mark-retype}
 use Rattle.rules.proofs.State.{MarkedAt, typeAt, entryOf, Running, within}
 use Rattle.rules.proofs.Tables.{word-block, entryOf-table, entryOf-data}
-use Rattle.rules.proofs.Changes.{Leaves, length-recounted, head-recounted, type-recounted, counter-recounted, mark-recounted}
+use Rattle.rules.proofs.Changes.{Leaves, length-recounted, head-recounted, kinds-recounted, type-recounted, counter-recounted, mark-recounted}
 
 -- the type of a table's blocks before create (its entries are added) and free (they are removed)
 abbrev pub typeBefore : Change → Level → ℕ
@@ -29,7 +29,7 @@ small-type added l2 = omega arith
 small-type removed v = omega arith
 
 abbrev pub retold : Change → Level → ℕ → Told → Told
-retold d v p h = record { B = h .B; types = typed (h .types) p (tableBlocks v) (typeAfter d v); table = h .table; golden = h .golden }
+retold d v p h = record { B = h .B; kinds = h .kinds; types = typed (h .types) p (tableBlocks v) (typeAfter d v); table = h .table; golden = h .golden }
 
 module _ (d : Change) (v : Level) (p : ℕ) {h : Told} {s : Store} (r : Running h s) (low : base s ≤ p) (high : p + tableBlocks v ≤ base s + blocks s) where
   -- the table's entries, the type that its blocks take, and the first of them
@@ -65,6 +65,8 @@ module _ (d : Change) (v : Level) (p : ℕ) {h : Told} {s : Store} (r : Running 
         ledger-length = length-retype led b₀ (tableBlocks v) t ∙ length-recounted d s (tableEntries v) e;
         base-is = head-retype led b₀ (tableBlocks v) t basePlace (omega arith) ∙ head-recounted d s (tableEntries v) e basePlace (omega arith);
         active-is = head-retype led b₀ (tableBlocks v) t activePlace (omega arith) ∙ head-recounted d s (tableEntries v) e activePlace (omega arith) ∙ r .active-is;
+        kinds-are = kinds-retype led b₀ (tableBlocks v) t ∙ kinds-recounted d s (tableEntries v) e ∙ r .kinds-are;
+        kinds-lawful = r .kinds-lawful;
         types-are = type-retyped;
         counters-are = λ c b l small. counter-retype led b₀ (tableBlocks v) t c b ∙ counter-recounted d s (tableEntries v) e (r .fit .ledger-length) c b l small;
         root = root;

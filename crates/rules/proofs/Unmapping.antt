@@ -8,6 +8,7 @@ use Rattle.words.specs.Bounded.{any}
 use Rattle.words.proofs.Bounded.{or-left, any-none}
 use Rattle.entries.specs.Entries.{Entry, fault, l1, l2, isFault, isLink, isSection, isPage}
 use Rattle.entries.proofs.Covers.{page-alone}
+use Rattle.entries.specs.Written.{kindless}
 use Rattle.entries.proofs.RoundTrip.{singly, a-fault}
 use Rattle.rules.specs.Store.{Store}
 use Rattle.rules.specs.Tables.{Form, sections, pages, larges, level, mappingWords, takes, wordIndex, tableEntry}
@@ -51,7 +52,7 @@ module _ (f : Form) (p i : ℕ) {h : Told} {s : Store} (r : Running h s) where
       let v = level f in
       let m = mappingWords f in
       let sl = slot r v p i m (words-in-block f i (now t3)) (now t2) (now t4) (now t5) (now t7) in
-      removes r (edits r v p i m sl removed entry (singly (λ k l. a-fault)) (λ k l. refl) (taken-apart f s p i (now t3) (now (rest t7))) (omega (arith, sl .unexecuted)))
+      removes r (edits r v p i m sl kindless removed entry (singly (λ k l. a-fault)) (λ k l. refl) (taken-apart f s p i (now t3) (now (rest t7))) (omega (arith, sl .unexecuted)))
 
   pub unmap-next : Next h s (unmaps f p i) (unmapOutcome f s p i)
   unfolding unmapOutcome afterAccepted entry

@@ -1,4 +1,4 @@
--- Lists 7 to 12 and 14 hold of what every run leaves and hands out: from an accepted begin on, the run is one of the lists of the theorem.
+-- Lists 7 to 12, 14 and 15 hold of what every run leaves and hands out: from an accepted begin on, the run is one of the lists of the theorem.
 use mathlib.Core.List.{List, [], _∷_, _++_}
 use mathlib.Core.Option.{some, Option·none-ne-some}
 use mathlib.Core.Path.{_≡_}
@@ -14,27 +14,27 @@ use Rattle.rules.proofs.Runs.{reached-append, answers-append, bytes-app
 
 module _ (golden : List ℕ) where
   -- the steps behind an accepted begin are one of the lists of the theorem
-  upheld : (s : Store) (B : ℕ) (steps : List Step) → beginOutcome s B .answer ≡ 0
-      → (let after = beginOutcome s B .after in let r = run golden after steps in Upheld golden B after steps (r .reached) (r .answers) (r .bytes))
-  upheld s B steps accepted =
-      let d = demand3 golden s B accepted steps in
+  upheld : (s : Store) (kinds : List ℕ) (B : ℕ) (steps : List Step) → beginOutcome s kinds B .answer ≡ 0
+      → (let after = beginOutcome s kinds B .after in let r = run golden after steps in Upheld golden kinds B after steps (r .reached) (r .answers) (r .bytes))
+  upheld s kinds B steps accepted =
+      let d = demand3 golden s kinds B accepted steps in
       record { throughout = d; safe = at-the-end d; fetched = d .fetched; never = d .never }
 
-  from-begin : (s : Store) (steps : List Step) (i B : ℕ) → getElem? steps i ≡ some (begins B) → getElem? (run golden s steps .answers) i ≡ some 0
+  from-begin : (s : Store) (steps : List Step) (i : ℕ) (kinds : List ℕ) (B : ℕ) → getElem? steps i ≡ some (begins kinds B) → getElem? (run golden s steps .answers) i ≡ some 0
       → (let r = run golden s steps in
-      Upheld golden B (storeAt golden s steps (suc i)) (drop (suc i) steps) (r .reached) (drop (suc i) (r .answers)) (drop (suc i) (r .bytes)))
+      Upheld golden kinds B (storeAt golden s steps (suc i)) (drop (suc i) steps) (r .reached) (drop (suc i) (r .answers)) (drop (suc i) (r .bytes)))
   unfolding runBy obey
-  from-begin s [] zero B e a = absurd (Option·none-ne-some (begins B) e)
-  from-begin s [] (suc i) B e a = absurd (Option·none-ne-some (begins B) e)
-  from-begin s (step ∷ steps) zero B e a =
-      let is : step ≡ begins B = cc in
-      let accepted : beginOutcome s B .answer ≡ 0 = (let k = rw is at a in cc) in
-      rw is (upheld s B steps accepted)
-  from-begin s (step ∷ steps) (suc i) B e a = from-begin (obey golden s step .after) steps i B e a
+  from-begin s [] zero kinds B e a = absurd (Option·none-ne-some (begins kinds B) e)
+  from-begin s [] (suc i) kinds B e a = absurd (Option·none-ne-some (begins kinds B) e)
+  from-begin s (step ∷ steps) zero kinds B e a =
+      let is : step ≡ begins kinds B = cc in
+      let accepted : beginOutcome s kinds B .answer ≡ 0 = (let k = rw is at a in cc) in
+      rw is (upheld s kinds B steps accepted)
+  from-begin s (step ∷ steps) (suc i) kinds B e a = from-begin (obey golden s step .after) steps i kinds B e a
 
-  -- the named theorem: lists 7 to 12 and 14 of what every run leaves and hands out, over whatever was lent
+  -- the named theorem: lists 7 to 12, 14 and 15 of what every run leaves and hands out, over whatever was lent
   pub run-upholds-demand3 : (s : Store) (steps : List Step) → (let r = run golden s steps in Upholds golden s steps (r .reached) (r .answers) (r .bytes))
-  run-upholds-demand3 s steps start before reached i B e a =
-      let all = from-begin start (before ++ steps) i B e in
+  run-upholds-demand3 s steps start before reached i kinds B e a =
+      let all = from-begin start (before ++ steps) i kinds B e in
       rw (reached, ← reached-append golden start before steps, ← answers-append golden start before steps, ← bytes-append golden start before steps)
       (all (rw (answers-append golden start before steps, ← reached) a))

@@ -19,10 +19,10 @@ untold s o = record { answer = o .answer; after = record { memory = o .after .me
 
 -- box 1: what comes of a step on a box: the guest's accesses are the processor's own, all others are calls
 unfoldable pub onBox : List ℕ → Store → Step → Outcome
-onBox golden s (begins B) = obey golden s (begins B)
+onBox golden s (begins kinds B) = obey golden s (begins kinds B)
 onBox golden s (creates v p) = obey golden s (creates v p)
 onBox golden s (frees v p) = obey golden s (frees v p)
-onBox golden s (maps f p i t r) = obey golden s (maps f p i t r)
+onBox golden s (maps f p i t r k) = obey golden s (maps f p i t r k)
 onBox golden s (links p i t j) = obey golden s (links p i t j)
 onBox golden s (unmaps f p i) = obey golden s (unmaps f p i)
 onBox golden s (switches p) = obey golden s (switches p)
@@ -31,10 +31,10 @@ onBox golden s (forgets p m) = obey golden s (forgets p m)
 
 -- box 2: a step on store s whose entries give write to physical block q, if it is accepted
 unfoldable pub grantsWrite : Store → Step → ℕ → Bool
-grantsWrite s (begins B) q = false
+grantsWrite s (begins kinds B) q = false
 grantsWrite s (creates v p) q = above (gain (tableEntries v) (tableEntry v s p) writable q) 0
 grantsWrite s (frees v p) q = false
-grantsWrite s (maps f p i t r) q = above (gain (mappingWords f) (mapping f t r) writable q) 0
+grantsWrite s (maps f p i t r k) q = above (gain (mappingWords f) (mapping f t r) writable q) 0
 grantsWrite s (links p i t j) q = false
 grantsWrite s (unmaps f p i) q = false
 grantsWrite s (switches p) q = false
@@ -56,8 +56,8 @@ Dutiful golden s (step ∷ steps) =
 -- box 3: the claim about every such list from every accepted begin on, over any memory and ledger, under any image
 abbrev pub Box-holds : Type 0
 Box-holds =
-    (golden : List ℕ) (start : Store) (B : ℕ) → beginOutcome start B .answer ≡ 0
-    → (steps : List Step) → Dutiful golden (beginOutcome start B .after) steps → Claim (onBox golden) golden B (beginOutcome start B .after) steps
+    (golden : List ℕ) (start : Store) (kinds : List ℕ) (B : ℕ) → beginOutcome start kinds B .answer ≡ 0
+    → (steps : List Step) → Dutiful golden (beginOutcome start kinds B .after) steps → Claim (onBox golden) golden kinds B (beginOutcome start kinds B .after) steps
 
 -- box 5: a step on store s is accepted, and its entries give write to some block of the region
 unfoldable pub owesForget : List ℕ → Store → Step → Bool
@@ -79,5 +79,5 @@ careful golden s (step ∷ steps) =
 -- box 5: the claim that the duty is done in such a list, whatever the steps
 abbrev pub Duty-can-be-done : Type 0
 Duty-can-be-done =
-    (golden : List ℕ) (start : Store) (B : ℕ) → beginOutcome start B .answer ≡ 0
-    → (steps : List Step) → let s = beginOutcome start B .after in Dutiful golden s (careful golden s steps)
+    (golden : List ℕ) (start : Store) (kinds : List ℕ) (B : ℕ) → beginOutcome start kinds B .answer ≡ 0
+    → (steps : List Step) → let s = beginOutcome start kinds B .after in Dutiful golden s (careful golden s steps)

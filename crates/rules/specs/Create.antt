@@ -5,7 +5,7 @@ use Prim.Native.Nat.{ℕ, _+_}
 use Rattle.words.specs.Bounded.{above, neqb, among, any}
 use Rattle.entries.specs.Entries.{Entry, Level, l2, isUnaccepted, isLink, coverFirst, coverBlocks}
 use Rattle.rules.specs.Refusals.{Refusal, _if_}
-use Rattle.rules.specs.Store.{Store, blocks, base, writable, executable, someCounter, typeOf, counter, someBlock, someRegionBlock, misfit}
+use Rattle.rules.specs.Store.{Store, blocks, base, writable, executable, someCounter, typeOf, counter, someBlock, someRegionBlock, misfitStored}
 use Rattle.rules.specs.Outcomes.{Outcome, Accepted, callOutcome}
 use Rattle.rules.specs.Signature.{imageRefusals, unknown}
 use Rattle.rules.specs.Tables.{typeD, typeCode, tableBlocks, tableEntries, tableEntry, grants, gain, executed, astray}
@@ -42,7 +42,7 @@ unsigned golden s m e b = executed m e b && unknown golden s b
 -- create list, create 8: each test goes over the whole table before the next; 8 if an entry is not accepted
 abbrev pub createRefusals : Level → List ℕ → Store → ℕ → List Refusal
 createRefusals v golden s p =
-    1 if misfit s (base s)
+    1 if misfitStored s
     ∷ imageRefusals golden
     ++ 2 if tableOutside v s p
     ∷ 3 if misaligned p (tableBlocks v)

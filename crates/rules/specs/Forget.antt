@@ -4,7 +4,7 @@ use mathlib.Core.List.{List, [], _∷_}
 use Prim.Native.Nat.{ℕ, _-_}
 use Rattle.words.specs.Bounded.{above}
 use Rattle.rules.specs.Refusals.{Refusal, _if_}
-use Rattle.rules.specs.Store.{Store, blocks, base, clearMarks, outside, misfit}
+use Rattle.rules.specs.Store.{Store, blocks, base, clearMarks, outside, misfitStored}
 use Rattle.rules.specs.Outcomes.{Outcome, leaving, callOutcome}
 
 -- forget 2: there are blocks, and one of them lies outside the region
@@ -14,7 +14,7 @@ strayBlocks s p m = above m 0 && outside (base s) (blocks s) p m
 -- forget list: 1 and 2
 abbrev pub forgetRefusals : Store → ℕ → ℕ → List Refusal
 forgetRefusals s p m =
-    1 if misfit s (base s)
+    1 if misfitStored s
     ∷ 2 if strayBlocks s p m
     ∷ []
 

@@ -6,7 +6,7 @@ use lib.Dec.{eqb}
 use Rattle.words.specs.Bounded.{above, any}
 use Rattle.entries.specs.Entries.{Level, l1, l2, isUnaccepted}
 use Rattle.rules.specs.Refusals.{Refusal, _if_}
-use Rattle.rules.specs.Store.{Store, blocks, base, active, linked, counter, misfit}
+use Rattle.rules.specs.Store.{Store, blocks, base, active, linked, counter, misfitStored}
 use Rattle.rules.specs.Outcomes.{Outcome, leaving, callOutcome}
 use Rattle.rules.specs.Tables.{typeCode, tableBlocks, tableEntries, tableEntry, astray}
 use Rattle.rules.specs.General.{tableOutside, misaligned, otherType, someOverrun, retyped, removed}
@@ -19,7 +19,7 @@ inUse l2 s p = above (counter linked s p) 0
 -- free list, free 8, free 10: 8 if an entry is not accepted, 10 if a part of an entry's place lies outside the region
 abbrev pub freeRefusals : Level → Store → ℕ → List Refusal
 freeRefusals v s p =
-    1 if misfit s (base s)
+    1 if misfitStored s
     ∷ 2 if tableOutside v s p
     ∷ 3 if misaligned p (tableBlocks v)
     ∷ 5 if otherType v s p (typeCode v)

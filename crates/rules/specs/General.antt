@@ -5,7 +5,7 @@ use Prim.Native.Nat.{ℕ, _+_, _-_, _/_, _%_}
 use lib.Dec.{leb}
 use Rattle.words.specs.Bounded.{above, neqb, any, count}
 use Rattle.entries.specs.Entries.{Entry, Level, isFault}
-use Rattle.entries.specs.Written.{wordOf, cacheable}
+use Rattle.entries.specs.Written.{wordOf}
 use Rattle.rules.specs.Store.{blockWords, counterLimit, Store, blocks, base, executable, recordWord, counterWord, someCounter, typeOf, counter, marked, retype, recount, clearMark, markBlocks, fill, outside, someBlock, someRegionBlock}
 use Rattle.rules.specs.Outcomes.{Accepted}
 use Rattle.rules.specs.Tables.{typeD, typeCode, tableBlocks, tableEntries, wordIndex, tableEntry, gain, executed}
@@ -96,6 +96,6 @@ edited d s p i m e w = record { memory = fill (s .memory) (wordIndex s p i) m w;
 abbrev pub occupied : Level → Store → ℕ → ℕ → ℕ → Bool
 occupied v s p i m = any m (λ k. not (isFault (tableEntry v s p (i + k))))
 
--- map leaves, link leaves: the words of the m entries e stored from entry i on (entries 15, entries 16), and the entries added
-abbrev pub entered : Store → ℕ → ℕ → ℕ → (ℕ → Entry) → Store
-entered s p i m e = edited added s p i m e (λ k. wordOf cacheable (e k))
+-- map leaves, link leaves: the words of the m entries e, of this memory kind, stored from entry i on (entries 15, entries 16), and the entries added
+abbrev pub entered : ℕ → Store → ℕ → ℕ → ℕ → (ℕ → Entry) → Store
+entered kind s p i m e = edited added s p i m e (λ k. wordOf kind (e k))

@@ -6,7 +6,7 @@ use lib.ListN.{getD, set}
 use Rattle.words.specs.Words.{bits}
 use Rattle.entries.specs.Entries.{Entry, fault, unaccepted, link, section, page, large, Level, l1, l2, blockTables, entryAt, isFault, isUnaccepted, rights, coverFirst, coverBlocks}
 use Rattle.rules.specs.Refusals.{Refusal, _if_}
-use Rattle.rules.specs.Store.{blockBytes, blockWords, Store, blocks, base, active, clearMark, misfit}
+use Rattle.rules.specs.Store.{blockBytes, blockWords, Store, blocks, base, active, clearMark, misfitStored}
 use Rattle.rules.specs.Outcomes.{Outcome, Accepted, callOutcome}
 use Rattle.rules.specs.Tables.{tableBlocks, l2Words, astray}
 use Rattle.entries.specs.Rights.{Right, read, write, execute, allows}
@@ -76,7 +76,7 @@ activeWalk s addr = walk (base s) (blocks s) (s .memory) (active s) addr
 -- guest list: 1, 21, and what the walk adds
 abbrev pub guestRefusals : Access → Store → ℕ → List Refusal
 guestRefusals a s addr =
-    1 if misfit s (base s)
+    1 if misfitStored s
     ∷ 21 if noActiveTable s
     ∷ walkRefusals a (activeWalk s addr)
 

@@ -5,10 +5,11 @@ use lib.Dec.{leb}
 use Rattle.words.specs.Bounded.{neqb}
 use Rattle.entries.specs.Entries.{Entry, link, l1, l2, blockTables}
 use Rattle.rules.specs.Refusals.{Refusal, _if_}
-use Rattle.rules.specs.Store.{Store, base, typeOf, misfit}
+use Rattle.rules.specs.Store.{Store, typeOf, misfitStored}
 use Rattle.rules.specs.Outcomes.{Outcome, leaving, callOutcome}
 use Rattle.rules.specs.Tables.{typeCode, tableBlocks}
 use Rattle.rules.specs.General.{tableOutside, misaligned, beyondTable, otherType, executableHolder, someOverrun, occupied, entered, added}
+use Rattle.entries.specs.Written.{kindless}
 
 -- link leaves, entries 6: the link to table j of block t
 abbrev pub linkTo : ℕ → ℕ → Entry
@@ -17,7 +18,7 @@ linkTo t j = link (blockTables * t + j)
 -- link list, link 4, link 10: 4 also if the block has no table j, 10 if the target lies outside the region or is not L2
 abbrev pub linkRefusals : Store → ℕ → ℕ → ℕ → ℕ → List Refusal
 linkRefusals s p i t j =
-    1 if misfit s (base s)
+    1 if misfitStored s
     ∷ 2 if tableOutside l1 s p
     ∷ 3 if misaligned p (tableBlocks l1)
     ∷ 4 if beyondTable l1 i
@@ -32,4 +33,4 @@ linkRefusals s p i t j =
 
 -- link list, link leaves: what link answers and leaves
 unfoldable pub linkOutcome : Store → ℕ → ℕ → ℕ → ℕ → Outcome
-linkOutcome s p i t j = callOutcome (linkRefusals s p i t j) s (leaving (entered s p i 1 (λ k. linkTo t j)))
+linkOutcome s p i t j = callOutcome (linkRefusals s p i t j) s (leaving (entered kindless s p i 1 (λ k. linkTo t j)))

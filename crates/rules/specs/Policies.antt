@@ -13,6 +13,7 @@ use Rattle.signature.specs.Signed.{misfitImage}
 use Rattle.rules.specs.Tables.{typeCode, tableEntries, Form, sections, pages, larges, level}
 use Rattle.entries.specs.Rights.{Right, write, execute, allows}
 use Rattle.rules.specs.Begin.{beginOutcome}
+use Rattle.rules.specs.Map.{firstKind}
 use Rattle.rules.specs.Switch.{switchOutcome}
 use Rattle.rules.specs.Guest.{ends, walk, Access, fetches}
 use Rattle.rules.specs.Steps.{Step, frees, maps, unmaps, accesses, run, Told, Root}
@@ -88,7 +89,7 @@ pub record WritableByOneEntry (h : Told) (s : Store) (p i t : ℕ) : Type 0 wher
 
 -- policies 9: the entry is taken away, entered with read and execute, taken away, and entered with read and write
 abbrev pub thereAndBack : ℕ → ℕ → ℕ → List Step
-thereAndBack p i t = unmaps pages p i ∷ maps pages p i t 5 ∷ unmaps pages p i ∷ maps pages p i t 3 ∷ []
+thereAndBack p i t = unmaps pages p i ∷ maps pages p i t 5 firstKind ∷ unmaps pages p i ∷ maps pages p i t 3 firstKind ∷ []
 
 -- policies 8: the entry is none that this unmap is for: unmap L2 meets an entry of a large page, unmap large any other
 unfoldable pub forAnother : Form → Entry → Bool
@@ -96,17 +97,17 @@ forAnother sections e = false
 forAnother pages e = isLarge e
 forAnother larges e = not (isLarge e)
 
--- Lists of steps, from the store s that a begin with B left
+-- Lists of steps, from the store s that a begin with these kinds and B left
 
-module _ (golden : List ℕ) (B : ℕ) (s : Store) (steps : List Step) where
+module _ (golden kinds : List ℕ) (B : ℕ) (s : Store) (steps : List Step) where
   -- policies 1, policies 2, policies 3, policies 9: P at the start and after each step
   abbrev pub Always : (Told → Store → Type 0) → Type 0
-  Always P = (i : ℕ) → P (toldAt golden B s steps i) (storeAt golden s steps i)
+  Always P = (i : ℕ) → P (toldAt golden kinds B s steps i) (storeAt golden s steps i)
 
   -- policies 4, policies 5, policies 6: P from before to after each guest step
   abbrev pub AtGuestSteps : (Told → Store → Store → Type 0) → Type 0
   AtGuestSteps P = (i : ℕ) (a : Access) (addr : ℕ) → getElem? steps i ≡ some (accesses a addr)
-      → P (toldAt golden B s steps i) (storeAt golden s steps i) (storeAt golden s steps (suc i))
+      → P (toldAt golden kinds B s steps i) (storeAt golden s steps i) (storeAt golden s steps (suc i))
 
   -- policies 8: wherever the list has this step, it is answered neither 8 nor 10
   abbrev pub MeetsSoundEntries : Step → Type 0
@@ -115,7 +116,7 @@ module _ (golden : List ℕ) (B : ℕ) (s : Store) (steps : List Step) where
   -- policies 8: wherever the list has this unmap, it is not answered 10, and 8 only at an entry that it is not for
   abbrev pub MeetsItsEntries : Form → ℕ → ℕ → Type 0
   MeetsItsEntries f p j = (i k : ℕ) → getElem? steps i ≡ some (unmaps f p j) → getElem? (run golden s steps .answers) i ≡ some k
-      → (k ≢ 10) × (k ≡ 8 → forAnother f (entryAt (level f) (storeAt golden s steps i .memory) (blockWords * (p - toldAt golden B s steps i .B) + j)) ≡ true)
+      → (k ≢ 10) × (k ≡ 8 → forAnother f (entryAt (level f) (storeAt golden s steps i .memory) (blockWords * (p - toldAt golden kinds B s steps i .B) + j)) ≡ true)
 
   -- policies 1, policies 2, policies 3, policies 4, policies 5, policies 6, policies 7, policies 8, policies 9: all of these, of one list
   pub record Policies : Type 0 where
@@ -133,7 +134,7 @@ module _ (golden : List ℕ) (B : ℕ) (s : Store) (steps : List Step) where
     -- policies 7: what the guest executes
     pub fetched : (i addr byte : ℕ) → getElem? steps i ≡ some (accesses fetches addr)
         → getElem? (run golden s steps .answers) i ≡ some 0 → getElem? (run golden s steps .bytes) i ≡ some byte
-        → FetchedCode (toldAt golden B s steps i) (storeAt golden s steps i) addr byte
+        → FetchedCode (toldAt golden kinds B s steps i) (storeAt golden s steps i) addr byte
     -- policies 8: no entry is held against a free, and against an unmap only that it is not for it
     pub free-sound : (v : Level) (p : ℕ) → MeetsSoundEntries (frees v p)
     pub unmap-sound : (f : Form) (p j : ℕ) → MeetsItsEntries f p j
@@ -143,5 +144,5 @@ module _ (golden : List ℕ) (B : ℕ) (s : Store) (steps : List Step) where
 -- lists 2, lists 3: the policies hold of every list from every accepted begin on, as the claim about lists does
 abbrev pub Policies-hold : Type 0
 Policies-hold =
-    (golden : List ℕ) (start : Store) (B : ℕ) → beginOutcome start B .answer ≡ 0
-    → (steps : List Step) → Policies golden B (beginOutcome start B .after) steps
+    (golden : List ℕ) (start : Store) (kinds : List ℕ) (B : ℕ) → beginOutcome start kinds B .answer ≡ 0
+    → (steps : List Step) → Policies golden kinds B (beginOutcome start kinds B .after) steps

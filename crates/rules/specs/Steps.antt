@@ -19,12 +19,13 @@ use Rattle.rules.specs.Switch.{switchOutcome}
 use Rattle.rules.specs.Guest.{Access, guestOutcome}
 use Rattle.rules.specs.Forget.{forgetOutcome}
 
--- lists 1: one of the seventeen calls, with any arguments; the accesses are the guest steps
+-- lists 1, begin kinds, map kind: one of the twenty-one calls, with any arguments; the accesses are the guest steps, and a begin or a map that names no kinds is
+-- one with cachedKinds or firstKind
 pub data Step : Type 0 where
-  begins : ℕ → Step
+  begins : List ℕ → ℕ → Step
   creates : Level → ℕ → Step
   frees : Level → ℕ → Step
-  maps : Form → ℕ → ℕ → ℕ → ℕ → Step
+  maps : Form → ℕ → ℕ → ℕ → ℕ → ℕ → Step
   links : ℕ → ℕ → ℕ → ℕ → Step
   unmaps : Form → ℕ → ℕ → Step
   switches : ℕ → Step
@@ -33,10 +34,10 @@ pub data Step : Type 0 where
 
 -- lists 1, lists 3: what comes of a step that is lent this image and this store
 unfoldable pub obey : List ℕ → Store → Step → Outcome
-obey golden s (begins B) = beginOutcome s B
+obey golden s (begins kinds B) = beginOutcome s kinds B
 obey golden s (creates v p) = createOutcome v golden s p
 obey golden s (frees v p) = freeOutcome v s p
-obey golden s (maps f p i t r) = mapOutcome f golden s p i t r
+obey golden s (maps f p i t r k) = mapOutcome f golden s p i t r k
 obey golden s (links p i t j) = linkOutcome s p i t j
 obey golden s (unmaps f p i) = unmapOutcome f s p i
 obey golden s (switches p) = switchOutcome s p
@@ -61,16 +62,17 @@ runBy by s (step ∷ steps) =
 abbrev pub run : List ℕ → Store → List Step → Run
 run golden s steps = runBy (obey golden) s steps
 
--- lists 4, lists 5, lists 11: what is told: B, the tables as types of physical blocks, the table of the last accepted switch, and the image
+-- lists 4, lists 5, lists 11: what is told: B, the kinds, the tables as types of physical blocks, the table of the last accepted switch, and the image
 pub record Told : Type 0 where
   pub B : ℕ
+  pub kinds : List ℕ
   pub types : ℕ → ℕ
   pub table : Option ℕ
   pub golden : List ℕ
 
 -- lists 5, lists 11: what an accepted begin tells: no tables, and no switch
-abbrev pub begun : ℕ → List ℕ → Told
-begun B golden = record { B = B; types = λ b. typeD; table = none; golden = golden }
+abbrev pub begun : List ℕ → ℕ → List ℕ → Told
+begun kinds B golden = record { B = B; kinds = kinds; types = λ b. typeD; table = none; golden = golden }
 
 -- lists 5: the types when the m blocks from p on get type t
 unfoldable pub typed : (ℕ → ℕ) → ℕ → ℕ → ℕ → ℕ → ℕ
@@ -85,13 +87,13 @@ pub record Root (B n : ℕ) (types : ℕ → ℕ) (p : ℕ) : Type 0 where
 
 -- lists 5, lists 11: what is told after an accepted step
 unfoldable pub afterAccepted : Told → Step → Told
-afterAccepted h (begins B) = begun B (h .golden)
-afterAccepted h (creates v p) = record { B = h .B; types = typed (h .types) p (tableBlocks v) (typeCode v); table = h .table; golden = h .golden }
-afterAccepted h (frees v p) = record { B = h .B; types = typed (h .types) p (tableBlocks v) typeD; table = h .table; golden = h .golden }
-afterAccepted h (maps f p i t r) = h
+afterAccepted h (begins kinds B) = begun kinds B (h .golden)
+afterAccepted h (creates v p) = record { B = h .B; kinds = h .kinds; types = typed (h .types) p (tableBlocks v) (typeCode v); table = h .table; golden = h .golden }
+afterAccepted h (frees v p) = record { B = h .B; kinds = h .kinds; types = typed (h .types) p (tableBlocks v) typeD; table = h .table; golden = h .golden }
+afterAccepted h (maps f p i t r k) = h
 afterAccepted h (links p i t j) = h
 afterAccepted h (unmaps f p i) = h
-afterAccepted h (switches p) = record { B = h .B; types = h .types; table = some p; golden = h .golden }
+afterAccepted h (switches p) = record { B = h .B; kinds = h .kinds; types = h .types; table = some p; golden = h .golden }
 afterAccepted h (accesses a addr) = h
 afterAccepted h (forgets p m) = h
 

@@ -5,7 +5,8 @@ use Prim.Native.Nat.{ℕ, zero, suc, _+_, _-_, _*_, _/_, _%_, _^_}
 use lib.Dec.{eqb}
 use lib.ListN.{length}
 use Rattle.words.specs.Bounded.{above, neqb, any}
-use Rattle.words.specs.Words.{word, putWord}
+use Rattle.words.specs.Lists.{part}
+use Rattle.words.specs.Words.{half, word, putWord}
 pub use Rattle.signature.specs.Signed.{blockBytes}
 
 -- memory 1, memory 4: the words of a block
@@ -28,9 +29,25 @@ baseAlignment = 256
 abbrev pub physicalBlocks : ℕ
 physicalBlocks = 2 ^ 20
 
+-- ledger 11: the memory kinds of a ledger
+abbrev pub kindCount : ℕ
+kindCount = 8
+
+-- ledger 11: their bytes
+abbrev pub kindsBytes : ℕ
+kindsBytes = 2 * kindCount
+
+-- ledger 11: where in the ledger they stand
+abbrev pub kindsPlace : ℕ
+kindsPlace = 8
+
+-- ledger 12: the greatest lawful kind, with bits 0 to 6 set
+abbrev pub greatestKind : ℕ
+greatestKind = 2 ^ 7 - 1
+
 -- ledger 1: the bytes of the head
 abbrev pub ledgerHeadBytes : ℕ
-ledgerHeadBytes = 8
+ledgerHeadBytes = kindsPlace + kindsBytes
 
 -- ledger 1: the words of a record
 abbrev pub recordWords : ℕ
@@ -76,6 +93,18 @@ base s = word (s .ledger) basePlace
 -- ledger 2: active, as the ledger has it
 abbrev pub active : Store → ℕ
 active s = word (s .ledger) activePlace
+
+-- ledger 11: the bytes of the kinds that the ledger has
+unfoldable pub kindsOf : List ℕ → List ℕ
+kindsOf ledger = part ledger kindsPlace kindsBytes
+
+-- ledger 11: kind k of such bytes
+unfoldable pub kindAt : List ℕ → ℕ → ℕ
+kindAt kinds k = half kinds (2 * k)
+
+-- ledger 12, refusal 1: one of the eight kinds is not lawful
+unfoldable pub unlawfulKinds : List ℕ → Bool
+unlawfulKinds kinds = any kindCount (λ k. above (kindAt kinds k) greatestKind)
 
 -- ledger 1, ledger 3: word k of the record of block b, b counted from the region's first
 unfoldable pub recordWord : List ℕ → ℕ → ℕ → ℕ
@@ -171,9 +200,13 @@ someBlock p m q = any m (λ k. q (p + k))
 abbrev pub someRegionBlock : Store → (ℕ → Bool) → Bool
 someRegionBlock s q = someBlock (base s) (blocks s) q
 
--- refusal 1, memory 1, memory 2, ledger 1: the memory, the ledger's length or B breaks its rule (B is the ledger's, in begin the one that is given)
+-- refusal 1, memory 1, memory 2, ledger 1: the memory, the ledger's length or this B breaks its rule
 unfoldable pub misfit : Store → ℕ → Bool
 misfit s B =
     neqb (length (s .memory) % blockBytes) 0 || above leastBlocks (blocks s) || above (blocks s) mostBlocks
     || neqb (length (s .ledger)) (ledgerHeadBytes + ledgerRecordBytes * blocks s)
     || neqb (B % baseAlignment) 0 || above (B + blocks s) physicalBlocks
+
+-- refusal 1, ledger 12: so, with the B that the ledger has, or one of its kinds is not lawful
+unfoldable pub misfitStored : Store → Bool
+misfitStored s = misfit s (base s) || unlawfulKinds (kindsOf (s .ledger))

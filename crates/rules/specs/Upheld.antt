@@ -10,15 +10,15 @@ use Rattle.rules.specs.Guest.{fetches}
 use Rattle.rules.specs.Steps.{Step, begins, accesses, run, begun, history}
 use Rattle.rules.specs.Demand3.{Safe, Fetched, storeAt, Demand3}
 
--- lists 13, runner 3: the claim about steps that run from store s, which a begin with B left, and leave a store and hand out answers and bytes
-pub record Upheld (golden : List ℕ) (B : ℕ) (s : Store) (steps : List Step) (left : Store) (answers bytes : List ℕ) : Type 0 where
+-- lists 13, runner 3: the claim about steps that run from store s, which a begin with these kinds and B left, and leave a store and hand out answers and bytes
+pub record Upheld (golden kinds : List ℕ) (B : ℕ) (s : Store) (steps : List Step) (left : Store) (answers bytes : List ℕ) : Type 0 where
   -- lists 13: the claim, at every moment of the list
-  pub throughout : Demand3 golden B s steps
-  -- lists 7, lists 8, lists 9, lists 14: of the memory and ledger that are left, by the answers handed out
-  pub safe : Safe (history (begun B golden) steps answers) left
+  pub throughout : Demand3 golden kinds B s steps
+  -- lists 7, lists 8, lists 9, lists 14, lists 15: of the memory and ledger that are left, by the answers handed out
+  pub safe : Safe (history (begun kinds B golden) steps answers) left
   -- lists 11: of the bytes handed out
   pub fetched : (i addr byte : ℕ) → getElem? steps i ≡ some (accesses fetches addr) → getElem? answers i ≡ some 0 → getElem? bytes i ≡ some byte
-      → Fetched (history (begun B golden) (take i steps) answers) (storeAt golden s steps i) addr byte
+      → Fetched (history (begun kinds B golden) (take i steps) answers) (storeAt golden s steps i) addr byte
   -- lists 12: of the answers handed out
   pub never : (i k : ℕ) → getElem? answers i ≡ some k → (k ≢ 13) × (k ≢ 24)
 
@@ -29,5 +29,5 @@ Upholds golden s steps left answers bytes =
     → (let all = before ++ steps in
     let said = run golden start before .answers ++ answers in
     let given = run golden start before .bytes ++ bytes in
-    (i B : ℕ) → getElem? all i ≡ some (begins B) → getElem? said i ≡ some 0
-    → Upheld golden B (storeAt golden start all (suc i)) (drop (suc i) all) left (drop (suc i) said) (drop (suc i) given))
+    (i : ℕ) (kinds : List ℕ) (B : ℕ) → getElem? all i ≡ some (begins kinds B) → getElem? said i ≡ some 0
+    → Upheld golden kinds B (storeAt golden start all (suc i)) (drop (suc i) all) left (drop (suc i) said) (drop (suc i) given))
