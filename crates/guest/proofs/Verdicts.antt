@@ -9,24 +9,24 @@ use Rattle.words.proofs.Bounded.{or-false-left}
 use Rattle.entries.specs.Entries.{l1}
 use Rattle.entries.specs.Rights.{allows}
 use Rattle.rules.specs.Refusals.{_if_, answerOf}
-use Rattle.rules.specs.Store.{blockBytes, ledgerHeadBytes, ledgerRecordBytes, Store, lent, blocks, base, active, outside, misfit}
+use Rattle.rules.specs.Store.{blockBytes, ledgerHeadBytes, ledgerRecordBytes, Store, lent, blocks, base, active, outside, misfitStored}
 use Rattle.rules.specs.Outcomes.{Outcome, Accepted, settle}
 use Rattle.rules.specs.Tables.{tableBlocks}
 use Rattle.rules.specs.General.{misaligned}
 use Rattle.rules.specs.Guest.{Walk, stops, ends, walk, byteIndex, Access, reads, fetches, needed, walkRefusals, activeWalk, noActiveTable, written, unmarked, byteGiven, guestOutcome}
-use Rattle.rules.proofs.State.{fits, within}
+use Rattle.rules.proofs.State.{fits-stored, within}
 use Rattle.guest.specs.Meaning.{Verdict, refused, stopped, allowed, arrived, judged, answerIn, byteIn, memoryIn, ledgerIn}
 use Rattle.guest.specs.Needs.{Region, InMemory, Recorded}
 use Rattle.guest.proofs.Walking.{InRegion, walk-in-region}
 
 -- Which test decides
 
-pub judged-1 : (a : Access) (s : Store) (addr : ℕ) → misfit s (base s) ≡ true → refused 1 ≡ judged a s addr
+pub judged-1 : (a : Access) (s : Store) (addr : ℕ) → misfitStored s ≡ true → refused 1 ≡ judged a s addr
 unfolding judged
 judged-1 a s addr e = rw e
 
 -- where 1 does not apply, by the words of the ledger that were read
-module _ (s : Store) {B n t : ℕ} (b : B ≡ base s) (m : n ≡ blocks s) (l : t ≡ active s) (fit : misfit s (base s) ≡ false) where
+module _ (s : Store) {B n t : ℕ} (b : B ≡ base s) (m : n ≡ blocks s) (l : t ≡ active s) (fit : misfitStored s ≡ false) where
   abbrev noTable : Bool
   noTable = outside B n t (tableBlocks l1) || misaligned t (tableBlocks l1)
 
@@ -40,7 +40,7 @@ module _ (s : Store) {B n t : ℕ} (b : B ≡ base s) (m : n ≡ blocks s) (l : 
   -- there is a table to walk from
   pub walkable : noTable ≡ false → Region (s .memory) B n × ((B ≤ t) × (t + tableBlocks l1 ≤ B + n))
   walkable e =
-      let f = fits s (base s) fit in
+      let f = fits-stored s fit in
       (record { whole = omega arith; physical = omega arith }, within B n t (tableBlocks l1) (or-false-left (outside B n t (tableBlocks l1)) (misaligned t (tableBlocks l1)) e))
 
   pub judged-walk : {r : Verdict} {w : Walk} (a : Access) (addr : ℕ) → noTable ≡ false → w ≡ walk B n (s .memory) t addr → r ≡ arrived a B addr w → r ≡ judged a s addr
@@ -63,15 +63,15 @@ arrived-lies a memory ledger B n addr (ends v p r) e f i = go (allows r (needed 
 
 pub byte-lies : (a : Access) (s : Store) (addr : ℕ) → InMemory (s .memory) (judged a s addr) × Recorded (s .ledger) (judged a s addr)
 unfolding InMemory Recorded judged
-byte-lies a s addr = go (misfit s (base s)) (noActiveTable s) refl where
+byte-lies a s addr = go (misfitStored s) (noActiveTable s) refl where
   at : Bool → Bool → Verdict
   at f t = cond f (refused 1) (cond t (refused 21) (arrived a (base s) addr (activeWalk s addr)))
 
-  go : (f t : Bool) → misfit s (base s) ≡ f → InMemory (s .memory) (at f t) × Recorded (s .ledger) (at f t)
+  go : (f t : Bool) → misfitStored s ≡ f → InMemory (s .memory) (at f t) × Recorded (s .ledger) (at f t)
   go true t e = (tt, tt)
   go false true e = (tt, tt)
   go false false e =
-      let f = fits s (base s) e in
+      let f = fits-stored s e in
       arrived-lies a (s .memory) (s .ledger) (base s) (blocks s) addr (activeWalk s addr) (f .memory-length) (f .ledger-length)
       (walk-in-region (base s) (blocks s) addr (s .memory) (active s))
 
@@ -113,7 +113,7 @@ module _ (a : Access) (memory ledger : List ℕ) (addr : ℕ) where
 
   judged-outcome : guestOutcome a s addr ≡ outcomeIn (judged a s addr)
   unfolding guestOutcome settle answerOf judged answerIn byteIn memoryIn ledgerIn
-  judged-outcome = go (misfit s (base s)) (noActiveTable s) where
+  judged-outcome = go (misfitStored s) (noActiveTable s) where
     w : Walk
     w = activeWalk s addr
 

@@ -5,7 +5,7 @@ use Prim.Native.Nat.{ℕ}
 use Rattle.entries.specs.Entries.{Level}
 use Rattle.entries.specs.Meaning.{levelOf}
 use Rattle.entries.specs.Rights.{allows}
-use Rattle.rules.specs.Store.{Store, base, misfit}
+use Rattle.rules.specs.Store.{Store, base, misfitStored}
 use Rattle.rules.specs.Guest.{Walk, stops, ends, byteIndex, Access, reads, fetches, writes, needed, noActiveTable, activeWalk, written, unmarked, byteGiven}
 use Rattle.guest.specs.declared.walk.Walk as walk
 use Rattle.guest.specs.declared.walk.Walk.the-variants.{Stops, Ends}
@@ -45,7 +45,7 @@ arrived a B addr (ends v p r) = cond (allows r (needed a)) (allowed (byteIndex B
 -- guest list: the verdict on an access
 unfoldable pub judged : Access → Store → ℕ → Verdict
 judged a s addr =
-    cond (misfit s (base s)) (refused 1)
+    cond (misfitStored s) (refused 1)
     (cond (noActiveTable s) (refused 21)
     (arrived a (base s) addr (activeWalk s addr)))
 

@@ -17,12 +17,12 @@ use Rattle.words.proofs.Bounded.{both-ways, below-or-above, differ, or-left, or
 use Rattle.words.proofs.Words.{Bytes, bytes-putWord}
 use Rattle.entries.specs.Entries.{Entry, isFault, isLink, rights, coverFirst, coverBlocks, covers}
 use Rattle.entries.specs.Rights.{write, execute, allows}
-use Rattle.rules.specs.Store.{ledgerHeadBytes, ledgerRecordBytes, basePlace, counterLimit, Store, blocks, base, recordWord, putRecordWord, typeWord, Counter, writable, executable, linked, counterWord, markWord, someCounter, counter, someBlock, misfit, lent}
+use Rattle.rules.specs.Store.{ledgerHeadBytes, ledgerRecordBytes, basePlace, counterLimit, Store, blocks, base, recordWord, putRecordWord, typeWord, Counter, writable, executable, linked, counterWord, markWord, someCounter, counter, someBlock, misfitStored, lent}
 use Rattle.rules.specs.Tables.{grants, gives, gain, astray}
 use Rattle.rules.specs.General.{Change, added, removed, endValue, endsBelow, overruns, someOverrun, recounted}
 use Rattle.rules.proofs.Gains.{fault-is, grants-place, gain-none}
 use Rattle.rules.proofs.Ledger.{InRecord, counter-in-record, counter-not-type, counter-not-mark, length-putRecordWord, head-putRecordWord, recordWord-put-same, recordWord-put-other}
-use Rattle.rules.proofs.State.{fits, within, inside, some-block-hit, some-block-found, no-block-at, no-counter, some-counter-found, some-counter-hit}
+use Rattle.rules.proofs.State.{fits-stored, within, inside, some-block-hit, some-block-found, no-block-at, no-counter, some-counter-found, some-counter-hit}
 use Rattle.rules.proofs.Changes.{end, length-recounted, head-recounted, type-recounted, mark-recounted, counter-recounted}
 use Rattle.rules.proofs.Walk.{cover-within}
 use Rattle.ledger.specs.Counters.{Spreads, beyond, counterBeyond, blocksBeyond, leastBefore, mostBefore, changed, changedCounter}
@@ -354,9 +354,9 @@ module _ (d : Change) (s : Store) (length-is : length (s .ledger) ≡ ledgerHead
 -- What the tests of a call say
 
 -- 1 and 10 do not apply
-pub recorded-inside : (s : Store) (e : Entry) (p m : ℕ) → misfit s (base s) ≡ false → GrantsInside (s .memory) (s .ledger) e p m → GrantsRecorded (s .ledger) e p m
+pub recorded-inside : (s : Store) (e : Entry) (p m : ℕ) → misfitStored s ≡ false → GrantsInside (s .memory) (s .ledger) e p m → GrantsRecorded (s .ledger) e p m
 recorded-inside s e p m t inside c g =
-    let fit = fits s (base s) t in
+    let fit = fits-stored s t in
     let (lo, hi) = within (base s) (blocks s) p m (inside c g) in
     (lo, omega arith)
 
@@ -365,12 +365,12 @@ pub entry-inside : (s : Store) (e : Entry) → astray (base s) (blocks s) e ≡ 
 entry-inside s e t c g = let (lo, hi) = cover-within (base s) (blocks s) e (grants-place c e g) t in inside (base s) (blocks s) (coverFirst e) (coverBlocks e) lo hi
 
 -- 13 does not apply
-pub countable : (d : Change) (s : Store) {n : ℕ} {x : ℕ → Entry} (e : Entry) (p m : ℕ) → Spreads n x e p m → misfit s (base s) ≡ false → GrantsInside (s .memory) (s .ledger) e p m
+pub countable : (d : Change) (s : Store) {n : ℕ} {x : ℕ → Entry} (e : Entry) (p m : ℕ) → Spreads n x e p m → misfitStored s ≡ false → GrantsInside (s .memory) (s .ledger) e p m
     → someOverrun d s n x ≡ false → (c : Counter) → Countable d (s .ledger) c e p m
 unfolding blocksBeyond counterBeyond
 countable d s e p m spreads t u o c g i l =
     let recorded = recorded-inside s e p m t u in
-    let none = no-counter (λ c. counterBeyond (leastBefore d) (mostBefore d) (s .ledger) c e p m) (overruns-blocks d s spreads (fits s (base s) t .ledger-length) recorded ∙ o) c in
+    let none = no-counter (λ c. counterBeyond (leastBefore d) (mostBefore d) (s .ledger) c e p m) (overruns-blocks d s spreads (fits-stored s t .ledger-length) recorded ∙ o) c in
     let q : ℕ → Bool = λ b. beyond (leastBefore d) (mostBefore d) (counter c s b) in
     let in-bounds = no-block-at p m q (and-false-right (grants c e) (someBlock p m q) none g) (p + i) (omega arith) (omega arith) in
     let is : p + i - base s ≡ recordOf (s .ledger) p + i = omega (arith, recorded c g .0) in
@@ -378,20 +378,20 @@ countable d s e p m spreads t u o c g i l =
 
 -- The code, over plain variables: a change of one counter after the other
 
-module _ (d : Change) (s : Store) (e : Entry) (p m : ℕ) (t1 : misfit s (base s) ≡ false) (t10 : GrantsInside (s .memory) (s .ledger) e p m) where
+module _ (d : Change) (s : Store) (e : Entry) (p m : ℕ) (t1 : misfitStored s ≡ false) (t10 : GrantsInside (s .memory) (s .ledger) e p m) where
   pub overruns-any : {t : Bool} → t ≡ blocksBeyond (leastBefore d) (mostBefore d) (s .ledger) e p m → (n : ℕ) (x : ℕ → Entry) → Spreads n x e p m → t ≡ someOverrun d s n x
-  overruns-any h n x spreads = h ∙ overruns-blocks d s spreads (fits s (base s) t1 .ledger-length) (recorded-inside s e p m t1 t10)
+  overruns-any h n x spreads = h ∙ overruns-blocks d s spreads (fits-stored s t1 .ledger-length) (recorded-inside s e p m t1 t10)
 
   module _ (bytes : Bytes (s .ledger)) (can : (c : Counter) → Countable d (s .ledger) c e p m) {l1 : List ℕ} (e1 : l1 ≡ changedCounter d (s .ledger) writable e p m) where
     pub second-ready : GrantsRecorded l1 e p m × Countable d l1 executable e p m
-    second-ready = rw e1 (ready-executable d s (fits s (base s) t1 .ledger-length) bytes e p m (recorded-inside s e p m t1 t10) can)
+    second-ready = rw e1 (ready-executable d s (fits-stored s t1 .ledger-length) bytes e p m (recorded-inside s e p m t1 t10) can)
 
     module _ {l2 : List ℕ} (e2 : l2 ≡ changedCounter d l1 executable e p m) where
       pub third-ready : GrantsRecorded l2 e p m × Countable d l2 linked e p m
-      third-ready = rw (e2, e1) (ready-linked d s (fits s (base s) t1 .ledger-length) bytes e p m (recorded-inside s e p m t1 t10) can)
+      third-ready = rw (e2, e1) (ready-linked d s (fits-stored s t1 .ledger-length) bytes e p m (recorded-inside s e p m t1 t10) can)
 
       pub all-changed : {l3 : List ℕ} → l3 ≡ changedCounter d l2 linked e p m → (n : ℕ) (x : ℕ → Entry) → Spreads n x e p m → l3 ≡ recounted d s n x
-      all-changed e3 n x spreads = rw (e2, e1) at e3 ∙ changed-recounted d s (fits s (base s) t1 .ledger-length) bytes e p m (recorded-inside s e p m t1 t10) can spreads
+      all-changed e3 n x spreads = rw (e2, e1) at e3 ∙ changed-recounted d s (fits-stored s t1 .ledger-length) bytes e p m (recorded-inside s e p m t1 t10) can spreads
 
 -- Entries one after the other
 

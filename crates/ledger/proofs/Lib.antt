@@ -3,4 +3,5 @@ pub mod Counting
 pub mod Fits
 pub mod Judge
 pub mod Marking
+mod MemoryKinds
 pub mod Records

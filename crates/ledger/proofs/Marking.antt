@@ -8,11 +8,12 @@ use native.Mathlib.Numerals.{add-one}
 use native.Mathlib.Omega.{arith}
 use lib.Dec.{eqb, leb}
 use borrow.Author.Tests.{le-leb, lt-leb, leb-true}
-use Rattle.words.specs.Bounded.{above, among, sum, num, count}
-use Rattle.words.proofs.Bounded.{among-in, among-out, among-within, both-ways}
+use Rattle.rules.specs.Signature.{unknown}
+use Rattle.words.specs.Bounded.{above, among, sum, num, count, any, neqb}
+use Rattle.words.proofs.Bounded.{among-in, among-out, among-within, both-ways, any-avoids, any-none}
 use Rattle.words.proofs.Sums.{sum-same, sum-window, count-most, count-none}
 use Rattle.entries.specs.Entries.{Entry}
-use Rattle.rules.specs.Store.{Store, blocks, base, recordWord, putRecordWord, executable, markWord, markValue, marked, clearMark, clearMarks, markBlocks, misfit}
+use Rattle.rules.specs.Store.{Store, blocks, base, recordWord, putRecordWord, executable, markWord, markValue, marked, clearMark, clearMarks, markBlocks, misfitStored, someBlock}
 use Rattle.rules.specs.Tables.{grants, executed}
 use Rattle.rules.specs.General.{hashedBlocks}
 use Rattle.rules.proofs.State.{within}
@@ -73,7 +74,7 @@ unfolding num
 above-num true = refl
 above-num false = refl
 
-module _ (s : Store) (e : Entry) (p m : ℕ) (t1 : misfit s (base s) ≡ false) (t10 : GrantsInside (s .memory) (s .ledger) e p m) {n : ℕ} {x : ℕ → Entry} (spreads : Spreads n x e p m) where
+module _ (s : Store) (e : Entry) (p m : ℕ) (t1 : misfitStored s ≡ false) (t10 : GrantsInside (s .memory) (s .ledger) e p m) {n : ℕ} {x : ℕ → Entry} (spreads : Spreads n x e p m) where
   -- what the entries execute
   executed-is : (b : ℕ) → executed n x (base s + b) ≡ (grants executable e && among p m (base s + b))
   executed-is b = ap (λ (k : ℕ). above k 0) (spreads .gains executable (base s + b)) ∙ above-num _
@@ -121,3 +122,11 @@ module _ (s : Store) (e : Entry) (p m : ℕ) (t1 : misfit s (base s) ≡ false) 
         let window = sum-window f (λ i. 0) (blocks s) b₀ m (omega arith) none in
         let zeros : (j : ℕ) → sum j (λ i. 0) ≡ 0 = λ j. count-none (λ i. false) j (λ i l. refl) in
         h ∙ sum-same _ (λ i. f (b₀ + i)) m own ∙ omega (arith, window, zeros (blocks s), zeros m)
+
+-- where all of the m blocks from p on are marked, none is unknown
+pub all-marked : (golden : List ℕ) (s : Store) (p m : ℕ) {b : ℕ} → b ≡ p - base s → base s ≤ p → any m (λ i. neqb (recordWord (s .ledger) markWord (b + i)) markValue) ≡ false
+    → someBlock p m (unknown golden s) ≡ false
+unfolding someBlock unknown
+all-marked golden s p m {b} is low none =
+    any-avoids (λ k. unknown golden s (p + k)) m
+    (λ k l. let at : p + k - base s ≡ b + k = omega arith in rw (at, any-none (λ i. neqb (recordWord (s .ledger) markWord (b + i)) markValue) m none k l) refl)

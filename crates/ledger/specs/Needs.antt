@@ -6,7 +6,7 @@ use Prim.Native.Nat.{ℕ, _+_, _-_, _*_, _^_, _<_, _≤_}
 use lib.ListN.{length}
 use Rattle.words.specs.Words.{word}
 use Rattle.entries.specs.Entries.{Entry, Level, coverFirst, coverBlocks}
-use Rattle.rules.specs.Store.{ledgerHeadBytes, ledgerRecordBytes, basePlace, lent, base, blocks, Counter, counterWord, recordWord, outside, misfit}
+use Rattle.rules.specs.Store.{ledgerHeadBytes, ledgerRecordBytes, basePlace, lent, base, blocks, Counter, counterWord, recordWord, outside, misfitStored}
 use Rattle.rules.specs.Tables.{grants}
 use Rattle.rules.specs.General.{Change, added, removed, tableOutside}
 
@@ -14,9 +14,9 @@ use Rattle.rules.specs.General.{Change, added, removed, tableOutside}
 abbrev pub InLedger : List ℕ → ℕ → Type 0
 InLedger ledger n = ledgerHeadBytes + ledgerRecordBytes * n ≤ length ledger
 
--- refusal 1: it does not apply to the memory, the ledger and the B in it
+-- refusal 1: it does not apply to the memory, the ledger and what stands in its head
 abbrev pub Fits : List ℕ → List ℕ → Type 0
-Fits memory ledger = misfit (lent memory ledger) (base (lent memory ledger)) ≡ false
+Fits memory ledger = misfitStored (lent memory ledger) ≡ false
 
 -- refusal 2: a table at block p lies in the region
 abbrev pub TableInside : Level → List ℕ → List ℕ → ℕ → Type 0

@@ -1,4 +1,4 @@
-// Where the ledger keeps what (ledger 1 to 4), and the limits of a region (memory 1, memory 2).
+// Where the ledger keeps what (ledger 1 to 4, ledger 11), and the limits of a region (memory 1, memory 2).
 use words::WORD_BYTES;
 ghost use mathlib.Core.Path.{_≡_};
 ghost use Prim.Native.Nat.{_+_, _*_, _^_, _≤_};
@@ -21,13 +21,22 @@ pub const BASE_ALIGNMENT: u32 = 256;
 pub const PHYSICAL_BLOCKS: usize = 0x10_0000;
 
 // Bytes before the records, and of a record.
-pub const LEDGER_HEAD_BYTES: usize = 8;
+pub const LEDGER_HEAD_BYTES: usize = KINDS_PLACE + KINDS_BYTES;
 
 pub const LEDGER_RECORD_BYTES: usize = WORD_BYTES * RECORD_WORDS;
 
 const BASE_PLACE: usize = 0;
 
 const ACTIVE_PLACE: usize = 4;
+
+pub const KINDS_PLACE: usize = 8;
+
+// The memory kinds, the bytes of one, and of all.
+pub const KINDS: u32 = 8;
+
+pub const KIND_BYTES: usize = 2;
+
+pub const KINDS_BYTES: usize = KIND_BYTES * KINDS as usize;
 
 // The words of a record, and which they are.
 const RECORD_WORDS: usize = 5;

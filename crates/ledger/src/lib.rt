@@ -2,6 +2,7 @@
 pub mod bounds; // bounds.rt: whether counters are within bounds
 pub mod counters; // counters.rt: what an entry adds to the counters or takes away
 pub mod image; // image.rt: the refusals of a golden image
+pub mod kinds; // kinds.rt: the eight memory kinds
 pub mod layout; // layout.rt: where the ledger keeps what
 pub mod marks; // marks.rt: which blocks are marked
 pub mod refusals; // refusals.rt: the numbers that the calls answer

@@ -1,13 +1,14 @@
 // The numbers that the calls answer (calls 2).
 pub const ACCEPTED: u32 = 0;
 
-// A length, or the first block's number, is not lawful (refusal 1).
+// A length, the first block's number or a memory kind is not lawful (refusal 1).
 pub const MISFIT: u32 = 1;
 
 pub const OUTSIDE_REGION: u32 = 2;
 
 pub const MISALIGNED: u32 = 3;
 
+// An index, the number of a table or that of a kind is too high.
 pub const BEYOND_TABLE: u32 = 4;
 
 pub const WRONG_TYPE: u32 = 5;

@@ -1,4 +1,5 @@
 // Refusal 1, and places in the region.
+use crate::kinds::some_unlawful_stored;
 use crate::layout::BASE_ALIGNMENT;
 use crate::layout::BLOCK_BYTES;
 use crate::layout::LEAST_BLOCKS;
@@ -13,7 +14,7 @@ ghost use mathlib.Core.Path.{_≡_};
 ghost use Prim.Native.Nat.{_/_, _<_, _^_};
 ghost use lib.ListN.{length};
 ghost use Rattle.entries.specs.Meaning.{meaning};
-ghost use Rattle.rules.specs.Store.{base as storedBase, blockBytes, lent, misfit, outside};
+ghost use Rattle.rules.specs.Store.{blockBytes, lent, misfit, misfitStored, outside};
 ghost use Rattle.rules.specs.Tables.{astray};
 
 pub fn blocks(memory: &[u8]) -> usize
@@ -45,14 +46,17 @@ pub fn is_misfit(memory: &[u8], ledger: &[u8], first: u32) -> bool
     PHYSICAL_BLOCKS < first as usize + n
 }
 
-// The same for the first block's number that the ledger holds.
+// The same for the first block's number that the ledger holds, or one of its kinds is not lawful.
 pub fn is_misfit_stored(memory: &[u8], ledger: &[u8]) -> bool
-    ensures { λ r. ⌜ r ≡ misfit (lent (now (memory .entry)) (now (ledger .entry))) (storedBase (lent (now (memory .entry)) (now (ledger .entry)))) ⌝ }
+    ensures { λ r. ⌜ r ≡ misfitStored (lent (now (memory .entry)) (now (ledger .entry))) ⌝ }
 {
     if ledger.len() < LEDGER_HEAD_BYTES {
         return true;
     }
-    is_misfit(memory, ledger, base(ledger))
+    if is_misfit(memory, ledger, base(ledger)) {
+        return true;
+    }
+    some_unlawful_stored(ledger)
 }
 
 // The m blocks from p on are not wholly among the n blocks from first on.

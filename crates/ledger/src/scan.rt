@@ -1,5 +1,7 @@
 // Scans of adjacent blocks: their records, and their contents.
 use crate::layout::BLOCK_BYTES;
+use crate::layout::MARK;
+use crate::layout::MARKED;
 use crate::layout::base;
 use crate::layout::record_of;
 use crate::layout::record_word;
@@ -57,11 +59,15 @@ fn is_unknown(memory: &[u8], ledger: &[u8], golden: &[u8], p: u32) -> bool
     !is_signed_block(memory, golden, base(ledger), p)
 }
 
-// Some of the m blocks from p on is.
+// Some of the m blocks from p on is. Where all are marked, nothing but their marks is looked at.
 pub fn some_unknown(memory: &[u8], ledger: &[u8], golden: &[u8], p: u32, m: u32) -> bool
     requires { ⌜ Fits (now memory) (now ledger) × BlocksInside (now memory) (now ledger) p m ⌝ }
     ensures { λ r. ⌜ r ≡ someBlock p m (unknown (now (golden .entry)) (lent (now (memory .entry)) (now (ledger .entry)))) ⌝ }
 {
+    let b = record_of(ledger, p);
+    if !some_differs(ledger, MARK, b, m as usize, MARKED) {
+        return false;
+    }
     for i in 0..m {
         if is_unknown(memory, ledger, golden, p + i) {
             return true;

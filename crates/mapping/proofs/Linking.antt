@@ -9,12 +9,12 @@ use Rattle.words.specs.Bounded.{sum}
 use Rattle.entries.specs.Entries.{l1, placeFirst, placeBlocks, coverFirst, coverBlocks, covers, blockTables}
 use Rattle.entries.specs.Needs.{IsTablePlace}
 use Rattle.rules.specs.Refusals.{Refusal, _if_, answerOf}
-use Rattle.rules.specs.Store.{Store, base, blocks, Counter, misfit}
+use Rattle.rules.specs.Store.{Store, base, blocks, Counter, misfitStored}
 use Rattle.rules.specs.Tables.{tableBlocks, gives, gain}
 use Rattle.rules.specs.General.{tableOutside, misaligned, beyondTable, occupied, added}
 use Rattle.rules.specs.Link.{linkTo, linkRefusals}
 use Rattle.rules.proofs.Refusals.{Passed, passed, now, rest}
-use Rattle.rules.proofs.State.{fits, within}
+use Rattle.rules.proofs.State.{fits-stored, within}
 use Rattle.ledger.specs.Counters.{Spreads}
 use Rattle.ledger.specs.Needs.{GrantsInside, Countable}
 use Rattle.ledger.proofs.Counting.{countable}
@@ -32,7 +32,7 @@ module _ (s : Store) (p i t j : ℕ) where
   -- the list by its pieces
   abbrev pub pieces : List Refusal
   pieces =
-      1 if misfit s (base s) ∷ 2 if tableOutside l1 s p ∷ 3 if misaligned p (tableBlocks l1) ∷ 4 if beyondTable l1 i ∷ 4 if leb blockTables j
+      1 if misfitStored s ∷ 2 if tableOutside l1 s p ∷ 3 if misaligned p (tableBlocks l1) ∷ 4 if beyondTable l1 i ∷ 4 if leb blockTables j
       ∷ (holderRefusals l1 s p i ++ (8 if occupied l1 s p i 1 ∷ linkTargetRefusals s t j))
 
   pub link-judged : {a : ℕ} → Decides pieces a → a ≡ answerOf (linkRefusals s p i t j)
@@ -49,7 +49,7 @@ module _ (s : Store) (p i t j : ℕ) where
     from10 = rest (rest (rest (rest (rest (rest (rest (rest all-passed)))))))
 
     pub link-place : IsTablePlace (blockTables * t + j)
-    link-place = let fit = fits s (base s) (now all-passed) in let (lo, hi) = within (base s) (blocks s) t 1 (now from10) in omega (arith, link-table)
+    link-place = let fit = fits-stored s (now all-passed) in let (lo, hi) = within (base s) (blocks s) t 1 (now from10) in omega (arith, link-table)
 
     pub link-ready : Slot s p i 1 × (GrantsInside (s .memory) (s .ledger) (linkTo t j) t 1 × ((c : Counter) → Countable added (s .ledger) c (linkTo t j) t 1))
     link-ready =

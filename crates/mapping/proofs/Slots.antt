@@ -9,7 +9,7 @@ use Rattle.rules.specs.Store.{blockWords, Store, base, blocks}
 use Rattle.rules.specs.Tables.{tableBlocks, tableEntries, wordIndex, Form, sections, pages, larges, level, mappingWords}
 use Rattle.rules.specs.General.{misaligned, holder}
 use Rattle.rules.proofs.Edits.{words-in-block}
-use Rattle.rules.proofs.State.{Fit, fits, within}
+use Rattle.rules.proofs.State.{Fit, fits-stored, within}
 use Rattle.ledger.specs.Needs.{InLedger}
 use Rattle.mapping.specs.Needs.{InTable, Slot}
 
@@ -24,7 +24,7 @@ pub bounds : {v : Level} {s : Store} {p i : ℕ} → InTable v s p i → Bounds 
 bounds {v} {s} {p} {i} t =
     let (lo, hi) = within (base s) (blocks s) p (tableBlocks v) (t .inside) in
     let l = leb-false (tableEntries v) i (t .in-table) in
-    record { fit = fits s (base s) (t .fits); low = lo; high = hi; small = l; holder-in = omega arith }
+    record { fit = fits-stored s (t .fits); low = lo; high = hi; small = l; holder-in = omega arith }
 
 -- words that lie in one block
 pub slot : {v : Level} {s : Store} {p i : ℕ} (m : ℕ) → 0 < m → i % blockWords + m ≤ blockWords → InTable v s p i → Slot s p i m
@@ -41,4 +41,4 @@ mapping-slot f {i = i} aligned t = slot (mappingWords f) (some-words f) (words-i
 
 -- the holder of the first word has a record, and the number of the word gives its number
 pub slot-record : {s : Store} {p i m : ℕ} → Slot s p i m → (wordIndex s p i / blockWords ≡ holder p i - base s) × InLedger (s .ledger) (holder p i - base s + 1)
-slot-record {s} sl = let f = fits s (base s) (sl .fits) in let low = sl .low in (omega arith, omega arith)
+slot-record {s} sl = let f = fits-stored s (sl .fits) in let low = sl .low in (omega arith, omega arith)

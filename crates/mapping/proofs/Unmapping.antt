@@ -10,7 +10,7 @@ use Rattle.words.proofs.Bounded.{and-false-right}
 use Rattle.entries.specs.Entries.{Entry, Level, placeFirst, placeBlocks}
 use Rattle.entries.specs.Written.{wordOf}
 use Rattle.rules.specs.Refusals.{Refusal, _if_, answerOf}
-use Rattle.rules.specs.Store.{Store, base, blocks, Counter, fill, misfit, outside}
+use Rattle.rules.specs.Store.{Store, base, blocks, Counter, fill, misfitStored, outside}
 use Rattle.rules.specs.Tables.{tableBlocks, Form, level, mappingWords, takes, wordIndex, tableEntry, astray}
 use Rattle.rules.specs.General.{tableOutside, misaligned, beyondTable, removed, someOverrun}
 use Rattle.rules.specs.Unmap.{unmapRefusals, unmapAfter}
@@ -68,7 +68,7 @@ module _ (f : Form) (s : Store) (p i : ℕ) where
 
   -- the tests of the words, as the code has their level and number
   pub slot-judged : {v : Level} {m a : ℕ} → v ≡ level f → m ≡ mappingWords f
-      → Decides (1 if misfit s (base s) ∷ 2 if tableOutside v s p ∷ 3 if misaligned p (tableBlocks v) ∷ 3 if misaligned i m ∷ 4 if beyondTable v i ∷ holderRefusals v s p i) a
+      → Decides (1 if misfitStored s ∷ 2 if tableOutside v s p ∷ 3 if misaligned p (tableBlocks v) ∷ 3 if misaligned i m ∷ 4 if beyondTable v i ∷ holderRefusals v s p i) a
       → a ≡ answerOf (slotRefusals f s p i)
   slot-judged is number d = rw (is, number) at (decides d)
 

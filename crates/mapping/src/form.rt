@@ -1,5 +1,4 @@
 // What can be mapped: sections in an L1 table, pages and large pages in an L2 block.
-use entries::encode::CACHEABLE;
 use entries::encode::large_word;
 use entries::encode::page_word;
 use entries::encode::section_word;
@@ -17,7 +16,7 @@ use entries::entry::is_section;
 ghost use mathlib.Core.Path.{_≡_};
 ghost use Prim.Native.Nat.{_%_, _^_, _<_};
 ghost use Rattle.entries.specs.Meaning.{levelOf, meaning};
-ghost use Rattle.entries.specs.Written.{cacheable, wordOf};
+ghost use Rattle.entries.specs.Written.{wordOf};
 ghost use Rattle.rules.specs.Tables as tables;
 ghost use Rattle.mapping.specs.Meaning.{formOf};
 ghost use Rattle.mapping.specs.Needs.{Positive};
@@ -80,15 +79,15 @@ pub fn mapping(form: Form, target: u32, rights: u32) -> Entry
     }
 }
 
-// The word of that entry.
-pub fn mapping_word(form: Form, target: u32, rights: u32) -> u32
+// The word of that entry, of this memory kind.
+pub fn mapping_word(form: Form, kind: u32, target: u32, rights: u32) -> u32
     requires { ⌜ (target < 2 ^ 20) × (target % tables.targetBlocks (formOf form) ≡ 0) ⌝ }
-    ensures { λ r. ⌜ r ≡ wordOf cacheable (tables.mapping (formOf form) target rights 0) ⌝ }
+    ensures { λ r. ⌜ r ≡ wordOf kind (tables.mapping (formOf form) target rights 0) ⌝ }
 {
     match form {
-        Form::Sections => section_word(CACHEABLE, target, rights),
-        Form::Pages => page_word(CACHEABLE, target, rights),
-        Form::Larges => large_word(CACHEABLE, target, rights),
+        Form::Sections => section_word(kind, target, rights),
+        Form::Pages => page_word(kind, target, rights),
+        Form::Larges => large_word(kind, target, rights),
     }
 }
 

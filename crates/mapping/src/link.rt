@@ -84,7 +84,7 @@ fn link_refusal(
     if holder != ACCEPTED {
         return holder;
     }
-    if is_occupied(Level::L1, memory, ledger, block, index, LINK_WORDS) {
+    if is_occupied(memory, ledger, block, index, LINK_WORDS) {
         return WRONG_ENTRY;
     }
     link_target_refusal(memory, ledger, target, table)

@@ -14,6 +14,8 @@ use entries::entry::Entry;
 use entries::rights::are_unlawful;
 use ledger::counters::Change;
 use ledger::image::image_refusal;
+use ledger::kinds::stored_kind;
+use ledger::layout::KINDS;
 use ledger::marks::hashed_blocks;
 use ledger::marks::mark_executed;
 use ledger::refusals::ACCEPTED;
@@ -34,7 +36,7 @@ ghost use Rattle.rules.specs.Map.{mapOutcome, mapRefusals};
 ghost use Rattle.mapping.specs.Meaning.{formOf};
 ghost use Rattle.mapping.specs.Pieces.{mapPlaceRefusals};
 
-// Refusals 1 to 4: lengths, the image, the table, the target's alignment and the index.
+// Refusals 1 to 4: lengths, the image, the table, the target's alignment, the index and the number of the kind.
 fn map_place_refusal(
     form: Form,
     memory: &[u8],
@@ -42,7 +44,7 @@ fn map_place_refusal(
     golden: &[u8],
     request: Request,
 ) -> u32
-    ensures { λ r. ⌜ r ≡ answerOf (mapPlaceRefusals (formOf form) (now (golden .entry)) (lent (now (memory .entry)) (now (ledger .entry))) (request .block) (request .index) (request .target)) ⌝ }
+    ensures { λ r. ⌜ r ≡ answerOf (mapPlaceRefusals (formOf form) (now (golden .entry)) (lent (now (memory .entry)) (now (ledger .entry))) (request .block) (request .index) (request .target) (request .kind)) ⌝ }
 {
     if is_misfit_stored(memory, ledger) {
         return MISFIT;
@@ -65,6 +67,9 @@ fn map_place_refusal(
     if table_entries(level) <= request.index {
         return BEYOND_TABLE;
     }
+    if KINDS <= request.kind {
+        return BEYOND_TABLE;
+    }
     ACCEPTED
 }
 
@@ -78,7 +83,7 @@ fn map_refusal(
     e: Entry,
 ) -> u32
     requires { ⌜ meaning e ≡ tables.mapping (formOf form) (request .target) (request .rights) 0 ⌝ }
-    ensures { λ r. ⌜ r ≡ answerOf (mapRefusals (formOf form) (now (golden .entry)) (lent (now (memory .entry)) (now (ledger .entry))) (request .block) (request .index) (request .target) (request .rights)) ⌝ }
+    ensures { λ r. ⌜ r ≡ answerOf (mapRefusals (formOf form) (now (golden .entry)) (lent (now (memory .entry)) (now (ledger .entry))) (request .block) (request .index) (request .target) (request .rights) (request .kind)) ⌝ }
 {
     let place = map_place_refusal(form, memory, ledger, golden, request);
     if place != ACCEPTED {
@@ -90,7 +95,6 @@ fn map_refusal(
         return holder;
     }
     if is_occupied(
-        level,
         memory,
         ledger,
         request.block,
@@ -115,9 +119,9 @@ pub fn map(
     request: Request,
     hashed: &mut u32,
 ) -> u32
-    ensures { λ r. ⌜ r ≡ mapOutcome (formOf form) (now (golden .entry)) (lent (now (memory .entry)) (now (ledger .entry))) (request .block) (request .index) (request .target) (request .rights) .answer ⌝ }
-    ensures { λ r. ⌜ now (hashed .exit) ≡ mapOutcome (formOf form) (now (golden .entry)) (lent (now (memory .entry)) (now (ledger .entry))) (request .block) (request .index) (request .target) (request .rights) .hashed ⌝ }
-    ensures { λ r. ⌜ lent (now (memory .exit)) (now (ledger .exit)) ≡ mapOutcome (formOf form) (now (golden .entry)) (lent (now (memory .entry)) (now (ledger .entry))) (request .block) (request .index) (request .target) (request .rights) .after ⌝ }
+    ensures { λ r. ⌜ r ≡ mapOutcome (formOf form) (now (golden .entry)) (lent (now (memory .entry)) (now (ledger .entry))) (request .block) (request .index) (request .target) (request .rights) (request .kind) .answer ⌝ }
+    ensures { λ r. ⌜ now (hashed .exit) ≡ mapOutcome (formOf form) (now (golden .entry)) (lent (now (memory .entry)) (now (ledger .entry))) (request .block) (request .index) (request .target) (request .rights) (request .kind) .hashed ⌝ }
+    ensures { λ r. ⌜ lent (now (memory .exit)) (now (ledger .exit)) ≡ mapOutcome (formOf form) (now (golden .entry)) (lent (now (memory .entry)) (now (ledger .entry))) (request .block) (request .index) (request .target) (request .rights) (request .kind) .after ⌝ }
 {
     let e = mapping(form, request.target, request.rights);
     let refusal = map_refusal(form, memory, ledger, golden, request, e);
@@ -127,7 +131,8 @@ pub fn map(
     }
     let n = target_blocks(form);
     *hashed = hashed_blocks(memory, ledger, e, request.target, n);
-    let w = mapping_word(form, request.target, request.rights);
+    let kind = stored_kind(ledger, request.kind);
+    let w = mapping_word(form, kind, request.target, request.rights);
     write_entries(
         Change::Added,
         memory,

@@ -1,8 +1,8 @@
 // The words of a table in which the entries of a mapping or a link stand.
 use entries::decode::entry_at;
+use entries::decode::is_fault_at;
 use entries::entry::Entry;
 use entries::entry::Level;
-use entries::entry::is_fault;
 use ledger::counters::Change;
 use ledger::counters::change_blocks;
 use ledger::layout::BLOCK_WORDS;
@@ -65,21 +65,14 @@ pub fn holder_refusal(level: Level, memory: &[u8], ledger: &[u8], block: u32, in
     ACCEPTED
 }
 
-// Some of the m entries from an index on is no fault.
-pub fn is_occupied(
-    level: Level,
-    memory: &[u8],
-    ledger: &[u8],
-    block: u32,
-    index: u32,
-    m: u32,
-) -> bool
+// Some of the m entries from an index on is no fault, whatever the table's level.
+pub fn is_occupied(memory: &[u8], ledger: &[u8], block: u32, index: u32, m: u32) -> bool
     requires { ⌜ Slot (lent (now memory) (now ledger)) block index m ⌝ }
-    ensures { λ r. ⌜ r ≡ occupied (levelOf level) (lent (now (memory .entry)) (now (ledger .entry))) block index m ⌝ }
+    ensures { λ r. ⌜ ((v : specified.Level) → r ≡ occupied v (lent (now (memory .entry)) (now (ledger .entry))) block index m) ⌝ }
 {
     let j = word_index(ledger, block, index);
     for k in 0..m as usize {
-        if !is_fault(entry_at(level, memory, j + k)) {
+        if !is_fault_at(memory, j + k) {
             return true;
         }
     }

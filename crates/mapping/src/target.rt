@@ -32,7 +32,7 @@ ghost use Rattle.entries.specs.Meaning.{meaning};
 ghost use Rattle.entries.specs.Rights.{allows, execute, write};
 ghost use Rattle.rules.specs.Refusals.{answerOf};
 ghost use Rattle.rules.specs.Store.{base as storedBase, lent, recordWord, recordWords, someBlock, typeOf};
-ghost use Rattle.rules.specs.Tables.{mapping, targetBlocks, typeD};
+ghost use Rattle.rules.specs.Tables.{mapping, typeD};
 ghost use Rattle.rules.specs.General.{holder};
 ghost use Rattle.rules.specs.Map.{clashingTarget, unfitTarget, unsignedTarget};
 ghost use Rattle.ledger.specs.Needs.{Fits};
@@ -63,12 +63,11 @@ fn executes_holder(block: u32, index: u32, target: u32, m: u32, rights: u32) -> 
     words::is_among(target, m, block + index / BLOCK_WORDS)
 }
 
-// The target is unfit (map 10).
-fn is_unfit_target(form: Form, memory: &[u8], ledger: &[u8], request: Request) -> bool
+// The target of m blocks is unfit (map 10).
+fn is_unfit_target(memory: &[u8], ledger: &[u8], request: Request, m: u32) -> bool
     requires { ⌜ Fits (now memory) (now ledger) × (holder (request .block) (request .index) < 2 ^ 32) ⌝ }
-    ensures { λ r. ⌜ r ≡ unfitTarget (formOf form) (lent (now (memory .entry)) (now (ledger .entry))) (request .block) (request .index) (request .target) (request .rights) ⌝ }
+    ensures { λ r. ⌜ r ≡ unfitTarget (lent (now (memory .entry)) (now (ledger .entry))) (request .block) (request .index) (request .target) m (request .rights) ⌝ }
 {
-    let m = target_blocks(form);
     if is_outside(base(ledger), blocks(memory), request.target, m) {
         return true;
     }
@@ -93,12 +92,11 @@ fn some_counted(memory: &[u8], ledger: &[u8], k: usize, target: u32, m: u32) -> 
     some_above_zero(ledger, k, b, m as usize)
 }
 
-// The target would be both writable and executable (map 11).
-fn is_clashing_target(form: Form, memory: &[u8], ledger: &[u8], target: u32, rights: u32) -> bool
-    requires { ⌜ InRegion (lent (now memory) (now ledger)) target (targetBlocks (formOf form)) ⌝ }
-    ensures { λ r. ⌜ r ≡ clashingTarget (formOf form) (lent (now (memory .entry)) (now (ledger .entry))) target rights ⌝ }
+// The target of m blocks would be both writable and executable (map 11).
+fn is_clashing_target(memory: &[u8], ledger: &[u8], target: u32, m: u32, rights: u32) -> bool
+    requires { ⌜ InRegion (lent (now memory) (now ledger)) target m ⌝ }
+    ensures { λ r. ⌜ r ≡ clashingTarget (lent (now (memory .entry)) (now (ledger .entry))) target m rights ⌝ }
 {
-    let m = target_blocks(form);
     if allows(rights, Right::Write) {
         if allows(rights, Right::Execute) {
             return true;
@@ -111,22 +109,22 @@ fn is_clashing_target(form: Form, memory: &[u8], ledger: &[u8], target: u32, rig
     false
 }
 
-// Some block of the target is neither marked nor signed (map 12). For other rights nothing is hashed.
+// Some block of the target of m blocks is neither marked nor signed (map 12). For other rights nothing is hashed.
 fn is_unsigned_target(
-    form: Form,
     memory: &[u8],
     ledger: &[u8],
     golden: &[u8],
     target: u32,
+    m: u32,
     rights: u32,
 ) -> bool
-    requires { ⌜ InRegion (lent (now memory) (now ledger)) target (targetBlocks (formOf form)) ⌝ }
-    ensures { λ r. ⌜ r ≡ unsignedTarget (formOf form) (now (golden .entry)) (lent (now (memory .entry)) (now (ledger .entry))) target rights ⌝ }
+    requires { ⌜ InRegion (lent (now memory) (now ledger)) target m ⌝ }
+    ensures { λ r. ⌜ r ≡ unsignedTarget (now (golden .entry)) (lent (now (memory .entry)) (now (ledger .entry))) target m rights ⌝ }
 {
     if !allows(rights, Right::Execute) {
         return false;
     }
-    some_unknown(memory, ledger, golden, target, target_blocks(form))
+    some_unknown(memory, ledger, golden, target, m)
 }
 
 // Refusals 10 to 13 of the target, with the new entry.
@@ -142,23 +140,17 @@ pub fn target_refusal(
     requires { ⌜ meaning e ≡ mapping (formOf form) (request .target) (request .rights) 0 ⌝ }
     ensures { λ r. ⌜ r ≡ answerOf (mapTargetRefusals (formOf form) (now (golden .entry)) (lent (now (memory .entry)) (now (ledger .entry))) (request .block) (request .index) (request .target) (request .rights)) ⌝ }
 {
-    if is_unfit_target(form, memory, ledger, request) {
+    let m = target_blocks(form);
+    if is_unfit_target(memory, ledger, request, m) {
         return UNFIT_TARGET;
     }
-    if is_clashing_target(form, memory, ledger, request.target, request.rights) {
+    if is_clashing_target(memory, ledger, request.target, m, request.rights) {
         return CLASH;
     }
-    if is_unsigned_target(form, memory, ledger, golden, request.target, request.rights) {
+    if is_unsigned_target(memory, ledger, golden, request.target, m, request.rights) {
         return UNSIGNED;
     }
-    if blocks_overrun(
-        Change::Added,
-        memory,
-        ledger,
-        e,
-        request.target,
-        target_blocks(form),
-    ) {
+    if blocks_overrun(Change::Added, memory, ledger, e, request.target, m) {
         return OVERRUN;
     }
     ACCEPTED

@@ -13,13 +13,13 @@ use Rattle.words.specs.Bounded.{above, any, sum, num}
 use Rattle.words.proofs.Bounded.{both-ways, false-unless, any-avoids, or-right, and-both, any-hit, any-found, or-cases, or-false-left, or-false-right, and-true, and-true-left, and-false-right, below-or-above}
 use Rattle.words.proofs.Words.{Bytes}
 use Rattle.entries.specs.Entries.{Entry, Level, coverFirst, coverBlocks}
-use Rattle.rules.specs.Store.{ledgerHeadBytes, ledgerRecordBytes, counterLimit, basePlace, Store, lent, blocks, base, recordWord, Counter, writable, executable, linked, counterWord, someCounter, counter, someBlock, someRegionBlock, misfit}
+use Rattle.rules.specs.Store.{ledgerHeadBytes, ledgerRecordBytes, counterLimit, basePlace, Store, lent, blocks, base, recordWord, Counter, writable, executable, linked, counterWord, someCounter, counter, someBlock, someRegionBlock, misfit, misfitStored}
 use Rattle.rules.specs.Tables.{grants, gives, gain, astray}
 use Rattle.rules.specs.General.{Change, added, removed, endValue, endsBelow, overruns, someOverrun, recounted}
 use Rattle.rules.proofs.Gains.{gives-within, gives-at, grants-place, gain-more, gain-hit, gain-none, gain-found}
-use Rattle.rules.proofs.State.{fits, some-block-hit, some-block-found, no-block-at, no-counter, some-counter-found, some-counter-hit}
+use Rattle.rules.proofs.State.{fits-stored, some-block-hit, some-block-found, no-block-at, no-counter, some-counter-found, some-counter-hit}
 use Rattle.rules.proofs.Walk.{cover-within}
-use Rattle.rules.proofs.Changes.{counter-at, end, length-recounted, head-recounted, type-recounted, mark-recounted, counter-recounted}
+use Rattle.rules.proofs.Changes.{counter-at, end, length-recounted, head-recounted, kinds-recounted, type-recounted, mark-recounted, counter-recounted}
 use Rattle.ledger.specs.Counters.{beyond, counterBeyond, blocksBeyond, entryBeyond, leastBefore}
 use Rattle.ledger.specs.Needs.{Fits, Changeable, Countable}
 use Rattle.ledger.proofs.Records.{recordWord-bound, bytes-recount, ledger-ext}
@@ -268,7 +268,7 @@ module _ (d : Change) (memory ledger : List ℕ) (e : Entry) where
       let none : (c : Counter) → grants c e ≡ false = no-counter (λ c. grants c e) idle in
       let s = lent memory ledger in
       was-changed (rw (none writable, none executable, none linked) refl)
-      (sym (recounted-idle d s 1 (λ k. e) (fits s (base s) fit .ledger-length) bytes (λ c p. gain-none 1 (λ k. e) c p (λ i l. rw (none c) refl))))
+      (sym (recounted-idle d s 1 (λ k. e) (fits-stored s fit .ledger-length) bytes (λ c p. gain-none 1 (λ k. e) c p (λ i l. rw (none c) refl))))
 
   -- one whose counters are in bounds can be changed
   pub entry-countable : InRegion memory ledger e → entryBeyond (leastBefore d) (mostOf d) ledger e ≡ false → (c : Counter) → Countable d ledger c e (coverFirst e) (coverBlocks e)
@@ -309,7 +309,7 @@ module _ (d : Change) {v : Level} {memory ledger : List ℕ} {j m : ℕ} (pre : 
   entry = entryFrom v memory j
 
   length-is : length ledger ≡ ledgerHeadBytes + ledgerRecordBytes * blocks store
-  length-is = fits store (base store) (pre .fits) .ledger-length
+  length-is = fits-stored store (pre .fits) .ledger-length
 
   -- entries that can be counted: those for which there was room, and a part of others
   all-storable : (i : ℕ) → Roomy d (lent memory ledger) i (entryFrom v memory j) → AllStorable d (lent memory ledger) i (entryFrom v memory j)
@@ -330,8 +330,8 @@ module _ (d : Change) {v : Level} {memory ledger : List ℕ} {j m : ℕ} (pre : 
     length-reached = ap length reached ∙ length-recounted d store i entry
 
     fits-reached : Fits memory led
-    unfolding misfit
-    fits-reached = rw (reached, length-recounted d store i entry, head-recounted d store i entry basePlace (omega arith)) (pre .fits)
+    unfolding misfit misfitStored
+    fits-reached = rw (reached, length-recounted d store i entry, head-recounted d store i entry basePlace (omega arith), kinds-recounted d store i entry) (pre .fits)
 
     placed-reached : AllPlaced v memory led j m
     placed-reached k l = rw (reached, head-recounted d store i entry basePlace (omega arith)) (pre .placed k l)

@@ -1,5 +1,8 @@
-// Begin: a region starts, with no tables, no counts and no marks (RULES: begin).
+// Begin: a region starts, with memory kinds, no tables, no counts and no marks (RULES: begin).
+use ledger::kinds::put_kinds;
+use ledger::kinds::some_unlawful;
 use ledger::layout::EXECUTABLE;
+use ledger::layout::KINDS_BYTES;
 use ledger::layout::LINKED;
 use ledger::layout::NO_TABLE;
 use ledger::layout::TYPE;
@@ -15,7 +18,8 @@ use ledger::region::blocks;
 use ledger::region::is_misfit;
 ghost use mathlib.Core.Path.{_≡_};
 ghost use Prim.Native.Nat.{_+_};
-ghost use Rattle.rules.specs.Begin.{beginOutcome};
+ghost use Rattle.rules.specs.Begin.{beginOutcome, beginRefusals, cachedKinds};
+ghost use Rattle.rules.specs.Refusals.{answerOf};
 ghost use Rattle.rules.specs.Store.{clearMark, clearMarks, lent, putCounters, putRecordWord, recount, retype, typeWord};
 ghost use Rattle.rules.specs.Tables.{typeD};
 ghost use Rattle.ledger.specs.Needs.{InLedger};
@@ -42,15 +46,44 @@ fn clear_records(ledger: &mut [u8], n: usize)
     }
 }
 
-pub fn begin(memory: &[u8], ledger: &mut [u8], first: u32) -> u32
-    ensures { λ r. ⌜ r ≡ beginOutcome (lent (now (memory .entry)) (now (ledger .entry))) first .answer ⌝ }
-    ensures { λ r. ⌜ lent (now (memory .entry)) (now (ledger .exit)) ≡ beginOutcome (lent (now (memory .entry)) (now (ledger .entry))) first .after ⌝ }
+// The lengths, this number of the first block, or these kinds are not lawful (begin 1).
+fn begin_refusal(memory: &[u8], ledger: &[u8], kinds: &[u8], first: u32) -> u32
+    ensures { λ r. ⌜ r ≡ answerOf (beginRefusals (lent (now (memory .entry)) (now (ledger .entry))) (now (kinds .entry)) first) ⌝ }
 {
     if is_misfit(memory, ledger, first) {
         return MISFIT;
     }
+    if kinds.len() != KINDS_BYTES {
+        return MISFIT;
+    }
+    if some_unlawful(kinds) {
+        return MISFIT;
+    }
+    ACCEPTED
+}
+
+// A region starts at this block, with these memory kinds.
+pub fn begin_kinds(memory: &[u8], ledger: &mut [u8], kinds: &[u8], first: u32) -> u32
+    ensures { λ r. ⌜ r ≡ beginOutcome (lent (now (memory .entry)) (now (ledger .entry))) (now (kinds .entry)) first .answer ⌝ }
+    ensures { λ r. ⌜ lent (now (memory .entry)) (now (ledger .exit)) ≡ beginOutcome (lent (now (memory .entry)) (now (ledger .entry))) (now (kinds .entry)) first .after ⌝ }
+{
+    let refusal = begin_refusal(memory, ledger, kinds, first);
+    if refusal != ACCEPTED {
+        return refusal;
+    }
     clear_records(ledger, blocks(memory));
+    put_kinds(ledger, kinds);
     put_base(ledger, first);
     put_active(ledger, NO_TABLE);
     ACCEPTED
+}
+
+// The kinds of a begin that names none: B and C, eight times (begin kinds).
+const CACHED_KINDS: [u8; 16] = *b"\x03\0\x03\0\x03\0\x03\0\x03\0\x03\0\x03\0\x03\0";
+
+pub fn begin(memory: &[u8], ledger: &mut [u8], first: u32) -> u32
+    ensures { λ r. ⌜ r ≡ beginOutcome (lent (now (memory .entry)) (now (ledger .entry))) cachedKinds first .answer ⌝ }
+    ensures { λ r. ⌜ lent (now (memory .entry)) (now (ledger .exit)) ≡ beginOutcome (lent (now (memory .entry)) (now (ledger .entry))) cachedKinds first .after ⌝ }
+{
+    begin_kinds(memory, ledger, &CACHED_KINDS, first)
 }

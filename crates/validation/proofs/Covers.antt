@@ -11,7 +11,7 @@ use Rattle.words.specs.Bounded.{neqb, among, any}
 use Rattle.words.specs.Words.{word}
 use Rattle.words.proofs.Bounded.{both-ways, and-true, or-false-left, below-or-above, any-or, among-in, among-within}
 use Rattle.entries.specs.Entries.{Entry, Level, l1, l2, coverFirst, coverBlocks}
-use Rattle.rules.specs.Store.{basePlace, Store, blocks, base, recordWord, Counter, writable, typeOf, someBlock, misfit}
+use Rattle.rules.specs.Store.{basePlace, Store, blocks, base, recordWord, Counter, writable, typeOf, someBlock, misfitStored}
 use Rattle.rules.specs.Tables.{typeD, tableBlocks, grants, gives, astray}
 use Rattle.rules.specs.Create.{unfitLink, unfitWrite, misplaced}
 use Rattle.rules.proofs.Gains.{gives-within, grants-place, grants-cover}
@@ -31,7 +31,7 @@ given-inside B n c e b placed g =
     (omega arith, omega arith)
 
 -- and has a record, if 1 does not apply either
-pub entry-recorded : (s : Store) (e : Entry) → misfit s (base s) ≡ false → astray (base s) (blocks s) e ≡ false → EntryRecorded (s .ledger) e
+pub entry-recorded : (s : Store) (e : Entry) → misfitStored s ≡ false → astray (base s) (blocks s) e ≡ false → EntryRecorded (s .ledger) e
 entry-recorded s e fit placed = recorded-inside s e (coverFirst e) (coverBlocks e) fit (entry-inside s e placed)
 
 -- a scan of the records of the blocks that an entry covers

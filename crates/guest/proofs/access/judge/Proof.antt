@@ -2,7 +2,7 @@
 use native.Mathlib.Omega.{arith}
 use borrow.Author.Needs.{needs}
 use Rattle.words.proofs.Bounded.{told}
-use Rattle.rules.proofs.State.{fits}
+use Rattle.rules.proofs.State.{fits-stored}
 use Rattle.guest.proofs.Walking.{ends-from, walk-in-region}
 use Rattle.guest.proofs.Verdicts.{walkable, judged-1, judged-21, judged-walk}
 use Rattle.guest.proofs.access.judge.Statement.{statement}
@@ -12,17 +12,17 @@ returns : tie.Need-returns
 returns c = judged-1 _ _ _ (told (c .before .is-misfit-stored .ensures) (c .if1 .taken))
 
 base-requires : tie.Need-base-requires
-base-requires c κs = let f = fits _ _ (told (c .before .is-misfit-stored .ensures) (c .if1 .left)) in omega arith
+base-requires c κs = let f = fits-stored _ (told (c .before .is-misfit-stored .ensures) (c .if1 .left)) in omega arith
 
 active-requires : tie.Need-active-requires
 active-requires c κs =
     let fit = c .before .before in
-    let f = fits _ _ (told (fit .before .is-misfit-stored .ensures) (fit .if1 .left)) in omega arith
+    let f = fits-stored _ (told (fit .before .is-misfit-stored .ensures) (fit .if1 .left)) in omega arith
 
 is-no-table-requires : tie.Need-is-no-table-requires
 is-no-table-requires c κs =
     let fit = c .before .before .before in
-    let f = fits _ _ (told (fit .before .is-misfit-stored .ensures) (fit .if1 .left)) in omega arith
+    let f = fits-stored _ (told (fit .before .is-misfit-stored .ensures) (fit .if1 .left)) in omega arith
 
 returns-2 : tie.Need-returns-2
 returns-2 c =

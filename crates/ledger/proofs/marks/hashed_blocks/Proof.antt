@@ -4,7 +4,7 @@ use borrow.Author.Needs.{needs}
 use borrow.Author.Tests.{not-true, not-false}
 use Rattle.words.proofs.Bounded.{told}
 use Rattle.rules.specs.Store.{executable}
-use Rattle.rules.proofs.State.{fits, within}
+use Rattle.rules.proofs.State.{fits-stored, within}
 use Rattle.ledger.proofs.Marking.{hashes-none, hashes-window}
 use Rattle.ledger.proofs.marks.hashed_blocks.Statement.{statement}
 use Rattle.ledger.proofs.marks.hashed_blocks.Tie as tie
@@ -16,13 +16,13 @@ returns c =
 
 record-of-requires : tie.Need-record-of-requires
 record-of-requires c κs =
-    let fit = fits _ _ (c .before .before .before .before .pre .0) in
+    let fit = fits-stored _ (c .before .before .before .before .pre .0) in
     let (lo, hi) = within _ _ _ _ (c .before .before .before .before .pre .1 executable (told (c .before .grants .ensures) (not-false _ (c .if1 .left)))) in
     (omega arith, lo)
 
 count-unmarked-requires : tie.Need-count-unmarked-requires
 count-unmarked-requires c κs =
-    let fit = fits _ _ (c .before .before .before .before .before .pre .0) in
+    let fit = fits-stored _ (c .before .before .before .before .before .pre .0) in
     let (lo, hi) = within _ _ _ _ (c .before .before .before .before .before .pre .1 executable (told (c .before .before .grants .ensures) (not-false _ (c .before .if1 .left)))) in
     let b = c .record-of .ensures in
     (omega arith, omega arith)

@@ -3,20 +3,20 @@ use native.Mathlib.Omega.{arith}
 use borrow.Author.Needs.{needs}
 use Rattle.words.proofs.Bounded.{told}
 use Rattle.rules.specs.Store.{executable}
-use Rattle.rules.proofs.State.{fits, within}
+use Rattle.rules.proofs.State.{fits-stored, within}
 use Rattle.ledger.proofs.Marking.{marks-none, marks-window}
 use Rattle.ledger.proofs.marks.mark_executed.Statement.{statement}
 use Rattle.ledger.proofs.marks.mark_executed.Tie as tie
 
 record-of-requires : tie.Need-record-of-requires
 record-of-requires c κs =
-    let fit = fits _ _ (c .before .before .before .before .before .pre .0) in
+    let fit = fits-stored _ (c .before .before .before .before .before .pre .0) in
     let (lo, hi) = within _ _ _ _ (c .before .before .before .before .before .pre .1 executable (told (c .before .before .grants .ensures) (c .before .if1 .taken))) in
     (omega arith, lo)
 
 mark-blocks-requires : tie.Need-mark-blocks-requires
 mark-blocks-requires c κs =
-    let fit = fits _ _ (c .before .before .before .before .before .before .before .pre .0) in
+    let fit = fits-stored _ (c .before .before .before .before .before .before .before .pre .0) in
     let (lo, hi) = within _ _ _ _ (c .before .before .before .before .before .before .before .pre .1 executable (told (c .before .before .before .before .grants .ensures) (c .before .before .before .if1 .taken))) in
     let b = c .before .record-of .ensures in
     omega arith

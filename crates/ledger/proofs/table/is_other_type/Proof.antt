@@ -5,16 +5,16 @@ use native.Mathlib.Omega.{arith}
 use borrow.Author.Needs.{needs}
 use Rattle.words.specs.Bounded.{neqb}
 use Rattle.rules.specs.Store.{recordWord, typeWord}
-use Rattle.rules.proofs.State.{fits, within}
+use Rattle.rules.proofs.State.{fits-stored, within}
 use Rattle.ledger.proofs.Blocks.{someBlock-records}
 use Rattle.ledger.proofs.table.is_other_type.Statement.{statement}
 use Rattle.ledger.proofs.table.is_other_type.Tie as tie
 
 record-of-requires : tie.Need-record-of-requires
-record-of-requires c κs = let fit = fits _ _ (c .before .before .pre .0) in (omega arith, within _ _ _ _ (c .before .before .pre .1) .0)
+record-of-requires c κs = let fit = fits-stored _ (c .before .before .pre .0) in (omega arith, within _ _ _ _ (c .before .before .pre .1) .0)
 
 some-differs-requires : tie.Need-some-differs-requires
-some-differs-requires c κs = let fit = fits _ _ (c .before .before .before .before .pre .0) in
+some-differs-requires c κs = let fit = fits-stored _ (c .before .before .before .before .pre .0) in
     let (lo, hi) = within _ _ _ _ (c .before .before .before .before .pre .1) in
     let b = c .before .record-of .ensures in
     (omega arith, omega arith)

@@ -3,16 +3,16 @@ use native.Mathlib.Omega.{arith}
 use borrow.Author.Needs.{needs}
 use Rattle.words.proofs.Bounded.{differ, same}
 use Rattle.words.proofs.Bounded.{told}
-use Rattle.rules.proofs.State.{fits}
+use Rattle.rules.proofs.State.{fits-stored}
 use Rattle.ledger.proofs.Judge.{decides, none, here, past}
 use Rattle.ledger.proofs.table.place_refusal.Statement.{statement}
 use Rattle.ledger.proofs.table.place_refusal.Tie as tie
 
 base-requires : tie.Need-base-requires
-base-requires c κs = let fit = fits _ _ (c .before .before .before .pre) in omega arith
+base-requires c κs = let fit = fits-stored _ (c .before .before .before .pre) in omega arith
 
 is-outside-requires : tie.Need-is-outside-requires
-is-outside-requires c κs = let fit = fits _ _ (c .before .before .before .before .before .pre) in omega arith
+is-outside-requires c κs = let fit = fits-stored _ (c .before .before .before .before .before .pre) in omega arith
 
 returns : tie.Need-returns
 returns c =

@@ -2,7 +2,7 @@
 use mathlib.Core.Path.{sym, _∙_}
 use native.Mathlib.Omega.{arith}
 use borrow.Author.Needs.{needs}
-use Rattle.entries.specs.Written.{cacheable}
+use Rattle.entries.specs.Written.{kindless}
 use Rattle.rules.specs.Store.{Store, lent}
 use Rattle.rules.specs.Link.{linkOutcome}
 use Rattle.ledger.proofs.Judge.{leaves-refused, leaves-accepted}
@@ -48,7 +48,7 @@ returns-2 c =
     let a = start .args in
     let is = sym (c .before .before .before .before .before .before .before .before .before .link-refusal .ensures) ∙ c .before .before .before .before .before .before .before .before .if1 .left in
     leaves-accepted _ _ _ (c .before .before .before .before .before .before .before .before .before .link-refusal .ensures) (c .before .before .before .before .before .before .before .before .if1 .left)
-    (rw (c .before .before .before .before .before .before .before .link-word .ensures cacheable) at (c .before .before .before .before .write-entries .ensures .0))
+    (rw (c .before .before .before .before .before .before .before .link-word .ensures kindless) at (c .before .before .before .before .write-entries .ensures .0))
     (c .before .before .before .before .write-entries .ensures .1 _ _ (link-spreads _ _ (link-table (store start) (a .block) (a .index) (a .target) (a .table) is)))
 
 pub link-spec : {M : Type 1} → statement M

@@ -8,7 +8,7 @@ use borrow.Author.Tests.{le-leb, lt-leb}
 use borrow.Author.Needs.{needs}
 use Rattle.words.proofs.Bounded.{told}
 use Rattle.entries.specs.Entries.{l1}
-use Rattle.rules.specs.Store.{Store, lent, base, misfit}
+use Rattle.rules.specs.Store.{Store, lent, misfitStored}
 use Rattle.rules.specs.Refusals.{_if_, answerOf}
 use Rattle.rules.specs.General.{occupied}
 use Rattle.rules.specs.Link.{linkRefusals}
@@ -33,7 +33,7 @@ judges : (c : tie.Start) {k : ℕ} → Decides (let a = c .args in pieces (store
 judges c = let a = c .args in link-judged (store c) (a .block) (a .index) (a .target) (a .table)
 
 -- what has passed, by the place in the code
-fitting : (c : tie.Else1) → misfit (store (c .before .before .before .before)) (base (store (c .before .before .before .before))) ≡ false
+fitting : (c : tie.Else1) → misfitStored (store (c .before .before .before .before)) ≡ false
 fitting c = told (c .before .is-misfit-stored .ensures) (c .if1 .left)
 
 placed : (c : tie.Else2) → Passed (placeRefusals l1 (store (c .before .before .before .before .before .before)) (c .before .before .before .before .before .before .args .block))
@@ -88,7 +88,7 @@ is-occupied-requires : tie.Need-is-occupied-requires
 is-occupied-requires c κs = slot {v = l1} 1 (omega arith) (omega arith) (entry (c .before .before))
 
 returns-6 : tie.Need-returns-6
-returns-6 c = from-holder (c .before .before .before .before) (accepted (held (c .before .before)) (here (told (c .before .is-occupied .ensures) (c .if6 .taken))))
+returns-6 c = from-holder (c .before .before .before .before) (accepted (held (c .before .before)) (here (told (c .before .is-occupied .ensures _) (c .if6 .taken))))
 
 link-target-refusal-requires : tie.Need-link-target-refusal-requires
 link-target-refusal-requires c κs = (entry (c .before .before .before .before) .fits, c .before .before .before .before .if4 .left)
@@ -96,7 +96,7 @@ link-target-refusal-requires c κs = (entry (c .before .before .before .before) 
 returns-7 : tie.Need-returns-7
 returns-7 c =
     from-holder (c .before .before .before .before .before)
-    (accepted (held (c .before .before .before)) (past (told (c .before .before .is-occupied .ensures) (c .before .if6 .left)) (judged _ (c .link-target-refusal .ensures))))
+    (accepted (held (c .before .before .before)) (past (told (c .before .before .is-occupied .ensures _) (c .before .if6 .left)) (judged _ (c .link-target-refusal .ensures))))
 
 pub link-refusal-spec : {M : Type 1} → statement M
 link-refusal-spec =

@@ -7,7 +7,7 @@ use Rattle.words.proofs.Bounded.{differ, same, told}
 use Rattle.entries.specs.Entries.{l2}
 use Rattle.rules.specs.Store.{lent}
 use Rattle.rules.specs.General.{tableOutside}
-use Rattle.rules.proofs.State.{fits, within}
+use Rattle.rules.proofs.State.{fits-stored, within}
 use Rattle.ledger.proofs.Judge.{decides, none, here, past}
 use Rattle.mapping.proofs.Linking.{link-spreads}
 use Rattle.mapping.proofs.link.link_target_refusal.Statement.{statement}
@@ -18,19 +18,19 @@ inside : (c : tie.Else1) → tableOutside l2 (lent (c .before .before .before .b
 inside c = told (rw (c .before .before .before .base .ensures, c .before .before .blocks2 .ensures) at (c .before .is-outside .ensures)) (c .if1 .left)
 
 base-requires : tie.Need-base-requires
-base-requires c κs = let fit = fits _ _ (c .before .before .pre .0) in omega arith
+base-requires c κs = let fit = fits-stored _ (c .before .before .pre .0) in omega arith
 
 is-outside-requires : tie.Need-is-outside-requires
-is-outside-requires c κs = let fit = fits _ _ (c .before .before .before .before .pre .0) in omega arith
+is-outside-requires c κs = let fit = fits-stored _ (c .before .before .before .before .pre .0) in omega arith
 
 returns : tie.Need-returns
 returns c = decides (here (told (rw (c .before .before .before .base .ensures, c .before .before .blocks2 .ensures) at (c .before .is-outside .ensures)) (c .if1 .taken)))
 
 record-of-requires : tie.Need-record-of-requires
-record-of-requires c κs = let fit = fits _ _ (c .before .before .before .before .before .before .pre .0) in let t10 = inside (c) in (omega arith, within _ _ _ _ t10 .0)
+record-of-requires c κs = let fit = fits-stored _ (c .before .before .before .before .before .before .pre .0) in let t10 = inside (c) in (omega arith, within _ _ _ _ t10 .0)
 
 record-word-requires : tie.Need-record-word-requires
-record-word-requires c κs = let fit = fits _ _ (c .before .before .before .before .before .before .before .pre .0) in
+record-word-requires c κs = let fit = fits-stored _ (c .before .before .before .before .before .before .before .pre .0) in
     let t10 = inside (c .before) in
     let (lo, hi) = within _ _ _ _ t10 in
     let b = c .record-of .ensures in
@@ -42,12 +42,12 @@ returns-2 c = decides
     (here (differ _ _ (rw (c .before .record-word .ensures, c .before .before .record-of .ensures .is) at (c .if2 .taken)))))
 
 mul-t8 : tie.Need-mul-t8
-mul-t8 c = let fit = fits _ _ (c .before .before .before .before .before .before .before .before .before .pre .0) in
+mul-t8 c = let fit = fits-stored _ (c .before .before .before .before .before .before .before .before .before .pre .0) in
     let (lo, hi) = within _ _ _ _ (inside (c .before .before .before)) in
     omega arith
 
 add-t11 : tie.Need-add-t11
-add-t11 c = let fit = fits _ _ (c .before .before .before .before .before .before .before .before .before .pre .0) in
+add-t11 c = let fit = fits-stored _ (c .before .before .before .before .before .before .before .before .before .pre .0) in
     let (lo, hi) = within _ _ _ _ (inside (c .before .before .before)) in
     omega (arith, c .before .before .before .before .before .before .before .before .before .pre .1)
 

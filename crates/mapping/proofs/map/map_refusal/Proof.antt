@@ -26,7 +26,7 @@ abbrev store : tie.Start → Store
 store c = lent (c .args .memory .now) (c .args .ledger .now)
 
 -- what has passed, by the place in the code
-placed : (c : tie.Else1) → Passed (mapPlaceRefusals (formOf (c .before .before .before .before .before .args .form)) (c .before .before .before .before .before .args .golden .now) (store (c .before .before .before .before .before)) (c .before .before .before .before .before .args .request .block) (c .before .before .before .before .before .args .request .index) (c .before .before .before .before .before .args .request .target))
+placed : (c : tie.Else1) → Passed (mapPlaceRefusals (formOf (c .before .before .before .before .before .args .form)) (c .before .before .before .before .before .args .golden .now) (store (c .before .before .before .before .before)) (c .before .before .before .before .before .args .request .block) (c .before .before .before .before .before .args .request .index) (c .before .before .before .before .before .args .request .target) (c .before .before .before .before .before .args .request .kind))
 placed c = passed _ (omega arith) (sym (c .before .map-place-refusal .ensures) ∙ c .if1 .left)
 
 abbrev start : tie.Else2 → tie.Start
@@ -41,51 +41,51 @@ held c = passed _ (omega arith) (sym (c .before .holder-refusal .ensures) ∙ c 
 -- then the tests that are left decide
 from-words : (c : tie.Else2) {n k : ℕ} → n ≡ mappingWords (formOf (start c .args .form))
     → Decides (let a = start c .args in 8 if occupied (at-level c) (store (start c)) (a .request .block) (a .request .index) n ∷ 9 if unlawfulRights (a .request .rights) ∷ mapTargetRefusals (formOf (a .form)) (a .golden .now) (store (start c)) (a .request .block) (a .request .index) (a .request .target) (a .request .rights)) k
-    → let a = start c .args in k ≡ answerOf (mapRefusals (formOf (a .form)) (a .golden .now) (store (start c)) (a .request .block) (a .request .index) (a .request .target) (a .request .rights))
+    → let a = start c .args in k ≡ answerOf (mapRefusals (formOf (a .form)) (a .golden .now) (store (start c)) (a .request .block) (a .request .index) (a .request .target) (a .request .rights) (a .request .kind))
 from-words c words d =
     let a = start c .args in
-    map-judged (formOf (a .form)) (a .golden .now) (store (start c)) (a .request .block) (a .request .index) (a .request .target) (a .request .rights) (c .before .before .level .ensures) words
+    map-judged (formOf (a .form)) (a .golden .now) (store (start c)) (a .request .block) (a .request .index) (a .request .target) (a .request .rights) (a .request .kind) (c .before .before .level .ensures) words
     (accepted (placed (c .before .before .before)) (accepted (held c) d))
 
 returns : tie.Need-returns
 returns c =
     let start = c .before .before .before .before .before in
     let a = start .args in
-    map-judged (formOf (a .form)) (a .golden .now) (store start) (a .request .block) (a .request .index) (a .request .target) (a .request .rights) refl refl (refused _ _ (c .before .map-place-refusal .ensures) (c .if1 .taken))
+    map-judged (formOf (a .form)) (a .golden .now) (store start) (a .request .block) (a .request .index) (a .request .target) (a .request .rights) (a .request .kind) refl refl (refused _ _ (c .before .map-place-refusal .ensures) (c .if1 .taken))
 
 holder-refusal-requires : tie.Need-holder-refusal-requires
 holder-refusal-requires c κs =
     let start = c .before .before .before .before .before .before in
     let a = start .args in
-    rw (c .level .ensures) (map-table (formOf (a .form)) (a .golden .now) (store start) (a .request .block) (a .request .index) (a .request .target) (placed (c .before)))
+    rw (c .level .ensures) (map-table (formOf (a .form)) (a .golden .now) (store start) (a .request .block) (a .request .index) (a .request .target) (a .request .kind) (placed (c .before)))
 
 returns-2 : tie.Need-returns-2
 returns-2 c =
     let start = c .before .before .before .before .before .before .before .before in
     let a = start .args in
-    map-judged (formOf (a .form)) (a .golden .now) (store start) (a .request .block) (a .request .index) (a .request .target) (a .request .rights) (c .before .before .level .ensures) refl
+    map-judged (formOf (a .form)) (a .golden .now) (store start) (a .request .block) (a .request .index) (a .request .target) (a .request .rights) (a .request .kind) (c .before .before .level .ensures) refl
     (accepted (placed (c .before .before .before)) (refused _ _ (c .before .holder-refusal .ensures) (c .if2 .taken)))
 
 is-occupied-requires : tie.Need-is-occupied-requires
 is-occupied-requires c κs =
     let start = c .before .before .before .before .before .before .before .before .before in
     let a = start .args in
-    rw (c .mapping-words .ensures .is) (map-slot (formOf (a .form)) (a .golden .now) (store start) (a .request .block) (a .request .index) (a .request .target) (placed (c .before .before .before .before)))
+    rw (c .mapping-words .ensures .is) (map-slot (formOf (a .form)) (a .golden .now) (store start) (a .request .block) (a .request .index) (a .request .target) (a .request .kind) (placed (c .before .before .before .before)))
 
 returns-3 : tie.Need-returns-3
-returns-3 c = from-words (c .before .before .before) (c .before .before .mapping-words .ensures .is) (here (told (c .before .is-occupied .ensures) (c .if3 .taken)))
+returns-3 c = from-words (c .before .before .before) (c .before .before .mapping-words .ensures .is) (here (told (c .before .is-occupied .ensures _) (c .if3 .taken)))
 
 returns-4 : tie.Need-returns-4
 returns-4 c =
     from-words (c .before .before .before .before .before) (c .before .before .before .before .mapping-words .ensures .is)
-    (past (told (c .before .before .before .is-occupied .ensures) (c .before .before .if3 .left)) (here (told (c .before .are-unlawful .ensures) (c .if4 .taken))))
+    (past (told (c .before .before .before .is-occupied .ensures _) (c .before .before .if3 .left)) (here (told (c .before .are-unlawful .ensures) (c .if4 .taken))))
 
 target-refusal-requires : tie.Need-target-refusal-requires
 target-refusal-requires c κs =
     let start = c .before .before .before .before .before .before .before .before .before .before .before .before .before in
     let a = start .args in
     let passes = placed (c .before .before .before .before .before .before .before .before) in
-    let b = bounds (map-table (formOf (a .form)) (a .golden .now) (store start) (a .request .block) (a .request .index) (a .request .target) passes) in
+    let b = bounds (map-table (formOf (a .form)) (a .golden .now) (store start) (a .request .block) (a .request .index) (a .request .target) (a .request .kind) passes) in
     let f = b .fit in
     let l = b .low in
     let h = b .high in
@@ -95,7 +95,7 @@ target-refusal-requires c κs =
 returns-5 : tie.Need-returns-5
 returns-5 c =
     from-words (c .before .before .before .before .before .before) (c .before .before .before .before .before .mapping-words .ensures .is)
-    (past (told (c .before .before .before .before .is-occupied .ensures) (c .before .before .before .if3 .left))
+    (past (told (c .before .before .before .before .is-occupied .ensures _) (c .before .before .before .if3 .left))
     (past (told (c .before .before .are-unlawful .ensures) (c .before .if4 .left))
     (judged _ (c .target-refusal .ensures))))
 

@@ -1,13 +1,13 @@
 -- The counters change, then the holder's mark, and then the words of the memory.
 use native.Mathlib.Omega.{arith}
 use borrow.Author.Needs.{needs}
-use Rattle.rules.proofs.State.{fits}
+use Rattle.rules.proofs.State.{fits-stored}
 use Rattle.mapping.proofs.Slots.{slot-record}
 use Rattle.mapping.proofs.slot.write_entries.Statement.{statement}
 use Rattle.mapping.proofs.slot.write_entries.Tie as tie
 
 word-index-requires : tie.Need-word-index-requires
-word-index-requires c κs = let sl = c .before .before .before .pre .0 in let f = fits _ _ (sl .fits) in (omega arith, sl .low, omega arith)
+word-index-requires c κs = let sl = c .before .before .before .pre .0 in let f = fits-stored _ (sl .fits) in (omega arith, sl .low, omega arith)
 
 change-blocks-requires : tie.Need-change-blocks-requires
 change-blocks-requires c κs = let pre = c .before .before .before .before .before .before .pre in ((pre .0 .fits, pre .1 .0), pre .1 .1)

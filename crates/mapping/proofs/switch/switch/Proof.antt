@@ -4,7 +4,7 @@ use native.Mathlib.Omega.{arith}
 use borrow.Author.Needs.{needs}
 use Rattle.rules.specs.Switch.{switchOutcome}
 use Rattle.rules.proofs.Refusals.{passed, now}
-use Rattle.rules.proofs.State.{fits}
+use Rattle.rules.proofs.State.{fits-stored}
 use Rattle.ledger.proofs.Judge.{leaves-refused, leaves-accepted}
 use Rattle.mapping.proofs.switch.switch.Statement.{statement}
 use Rattle.mapping.proofs.switch.switch.Tie as tie
@@ -14,7 +14,7 @@ unfolding switchOutcome
 returns c = leaves-refused _ _ _ (c .before .switch-refusal .ensures) (c .if1 .taken)
 
 put-active-requires : tie.Need-put-active-requires
-put-active-requires c κs = let fit = fits _ _ (now (passed _ (omega arith) (sym (c .before .before .switch-refusal .ensures) ∙ c .before .if1 .left))) in omega arith
+put-active-requires c κs = let fit = fits-stored _ (now (passed _ (omega arith) (sym (c .before .before .switch-refusal .ensures) ∙ c .before .if1 .left))) in omega arith
 
 returns-2 : tie.Need-returns-2
 unfolding switchOutcome

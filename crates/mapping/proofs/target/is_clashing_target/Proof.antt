@@ -17,18 +17,20 @@ unfolding clashingTarget
 returns c = rw (told (c .before .before .before .allows .ensures) (c .before .before .if1 .taken), told (c .before .allows2 .ensures) (c .if2 .taken))
 
 some-counted-requires : tie.Need-some-counted-requires
-some-counted-requires c κs = (omega arith, record { fits = c .before .before .before .before .before .before .before .pre .fits; inside = rw (c .before .before .before .before .target-blocks .ensures .is) (c .before .before .before .before .before .before .before .pre .inside) })
+some-counted-requires c κs = (omega arith, c .before .before .before .before .before .before .pre)
 
 returns-2 : tie.Need-returns-2
 unfolding clashingTarget
-returns-2 c = rw (told (c .before .before .before .before .allows .ensures) (c .before .before .before .if1 .taken), told (c .before .before .allows2 .ensures) (c .before .if2 .left)) (rw (c .before .before .before .before .before .target-blocks .ensures .is) at (c .some-counted .ensures) ∙ sym (or-none _))
+returns-2 c =
+    rw (told (c .before .before .before .before .allows .ensures) (c .before .before .before .if1 .taken), told (c .before .before .allows2 .ensures) (c .before .if2 .left)) (c .some-counted .ensures ∙ sym (or-none _))
 
 some-counted-requires-2 : tie.Need-some-counted-requires-2
-some-counted-requires-2 c κs = (omega arith, record { fits = c .before .before .before .before .before .before .before .pre .fits; inside = rw (c .before .before .before .before .target-blocks .ensures .is) (c .before .before .before .before .before .before .before .pre .inside) })
+some-counted-requires-2 c κs = (omega arith, c .before .before .before .before .before .before .pre)
 
 returns-3 : tie.Need-returns-3
 unfolding clashingTarget
-returns-3 c = rw (told (c .before .before .before .before .allows .ensures) (c .before .before .before .if1 .left), told (c .before .before .allows3 .ensures) (c .before .if3 .taken)) (rw (c .before .before .before .before .before .target-blocks .ensures .is) at (c .some-counted2 .ensures))
+returns-3 c =
+    rw (told (c .before .before .before .before .allows .ensures) (c .before .before .before .if1 .left), told (c .before .before .allows3 .ensures) (c .before .if3 .taken)) (c .some-counted2 .ensures)
 
 returns-4 : tie.Need-returns-4
 unfolding clashingTarget
@@ -38,7 +40,6 @@ pub is-clashing-target-spec : {M : Type 1} → statement M
 is-clashing-target-spec =
     tie.close
     (tie.spec
-    (λ c κs. search needs)
     (λ c κs. search needs)
     (λ c κs. search needs)
     returns

@@ -11,13 +11,11 @@ unfolding unsignedTarget
 returns c = rw (told (c .before .allows .ensures) (not-true _ (c .if1 .taken)))
 
 some-unknown-requires : tie.Need-some-unknown-requires
-some-unknown-requires c κs = (c .before .before .before .before .before .before .pre .fits, rw (c .target-blocks .ensures .is) (c .before .before .before .before .before .before .pre .inside))
+some-unknown-requires c κs = (c .before .before .before .before .before .pre .fits, c .before .before .before .before .before .pre .inside)
 
 returns-2 : tie.Need-returns-2
 unfolding unsignedTarget
-returns-2 c = rw (told (c .before .before .before .allows .ensures) (not-false _ (c .before .before .if1 .left))) (rw (c .before .target-blocks .ensures .is) at (c .some-unknown .ensures))
+returns-2 c = rw (told (c .before .before .allows .ensures) (not-false _ (c .before .if1 .left))) (c .some-unknown .ensures)
 
 pub is-unsigned-target-spec : {M : Type 1} → statement M
-is-unsigned-target-spec =
-    tie.close
-    (tie.spec (λ c κs. search needs) returns (λ c κs. search needs) some-unknown-requires returns-2)
+is-unsigned-target-spec = tie.close (tie.spec (λ c κs. search needs) returns some-unknown-requires returns-2)

@@ -8,7 +8,7 @@ use Rattle.words.specs.Bounded.{neqb}
 use Rattle.words.proofs.Bounded.{told}
 use Rattle.rules.specs.Store.{recordWord, typeWord}
 use Rattle.rules.specs.Tables.{typeD}
-use Rattle.rules.proofs.State.{fits, within}
+use Rattle.rules.proofs.State.{fits-stored, within}
 use Rattle.ledger.proofs.Blocks.{someBlock-records}
 use Rattle.mapping.proofs.target.writes_table.Statement.{statement}
 use Rattle.mapping.proofs.target.writes_table.Tie as tie
@@ -17,10 +17,10 @@ returns : tie.Need-returns
 returns c = rw (told (c .before .allows .ensures) (not-true _ (c .if1 .taken)))
 
 record-of-requires : tie.Need-record-of-requires
-record-of-requires c κs = let fit = fits _ _ (c .before .before .before .before .pre .fits) in (omega arith, within _ _ _ _ (c .before .before .before .before .pre .inside) .0)
+record-of-requires c κs = let fit = fits-stored _ (c .before .before .before .before .pre .fits) in (omega arith, within _ _ _ _ (c .before .before .before .before .pre .inside) .0)
 
 some-differs-requires : tie.Need-some-differs-requires
-some-differs-requires c κs = let fit = fits _ _ (c .before .before .before .before .before .pre .fits) in let (lo, hi) = within _ _ _ _ (c .before .before .before .before .before .pre .inside) in let b = c .record-of .ensures in (omega arith, omega arith)
+some-differs-requires c κs = let fit = fits-stored _ (c .before .before .before .before .before .pre .fits) in let (lo, hi) = within _ _ _ _ (c .before .before .before .before .before .pre .inside) in let b = c .record-of .ensures in (omega arith, omega arith)
 
 returns-2 : tie.Need-returns-2
 returns-2 c = let a = c .before .before .before .before .before .before .args in

@@ -5,7 +5,7 @@ use borrow.Author.Needs.{needs}
 use Rattle.words.proofs.Bounded.{told}
 use Rattle.entries.specs.Meaning.{meaning}
 use Rattle.rules.specs.Store.{Store, lent}
-use Rattle.rules.proofs.State.{fits}
+use Rattle.rules.proofs.State.{fits-stored}
 use Rattle.mapping.specs.Meaning.{formOf}
 use Rattle.mapping.proofs.Unmapping.{place-inside, judged-8, judged-10, judged-13, judged-0}
 use Rattle.mapping.proofs.unmap.removal_refusal.Statement.{statement}
@@ -23,12 +23,12 @@ returns c =
 base-requires : tie.Need-base-requires
 base-requires c κs =
     let start = c .before .before .before .before in
-    let fit = fits _ _ (start .pre) in omega arith
+    let fit = fits-stored _ (start .pre) in omega arith
 
 is-astray-requires : tie.Need-is-astray-requires
 is-astray-requires c κs =
     let start = c .before .before .before .before .before .before in
-    let fit = fits _ _ (start .pre) in omega arith
+    let fit = fits-stored _ (start .pre) in omega arith
 
 returns-2 : tie.Need-returns-2
 returns-2 c =

@@ -9,7 +9,7 @@ use borrow.Author.Needs.{needs}
 use Rattle.words.proofs.Bounded.{differ, same, told}
 use Rattle.entries.specs.Meaning.{levelOf}
 use Rattle.entries.specs.Entries.{Level}
-use Rattle.rules.specs.Store.{Store, lent, base, misfit}
+use Rattle.rules.specs.Store.{Store, lent, misfitStored}
 use Rattle.rules.specs.Refusals.{_if_, answerOf}
 use Rattle.rules.specs.Tables.{mappingWords}
 use Rattle.rules.specs.General.{misaligned, beyondTable}
@@ -26,7 +26,7 @@ abbrev store : tie.Start → Store
 store c = lent (c .args .memory .now) (c .args .ledger .now)
 
 -- what has passed, by the place in the code
-fitting : (c : tie.Else1) → misfit (store (c .before .before .before .before)) (base (store (c .before .before .before .before))) ≡ false
+fitting : (c : tie.Else1) → misfitStored (store (c .before .before .before .before)) ≡ false
 fitting c = told (c .before .is-misfit-stored .ensures) (c .if1 .left)
 
 abbrev start : tie.Else2 → tie.Start

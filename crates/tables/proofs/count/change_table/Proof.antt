@@ -3,20 +3,20 @@ use mathlib.Core.Path.{sym, _∙_}
 use native.Mathlib.Omega.{arith}
 use borrow.Author.Tests.{not-true, not-false}
 use borrow.Author.Needs.{needs}
-use Rattle.rules.proofs.State.{fits, within}
+use Rattle.rules.proofs.State.{fits-stored, within}
 use Rattle.tables.proofs.count.change_table.Statement.{statement}
 use Rattle.tables.proofs.count.change_table.Tie as tie
 
 first-word-requires : tie.Need-first-word-requires
-first-word-requires c κs = let fit = fits _ _ (c .before .before .before .pre .fits) in (omega arith, within _ _ _ _ (c .before .before .before .pre .inside) .0)
+first-word-requires c κs = let fit = fits-stored _ (c .before .before .before .pre .fits) in (omega arith, within _ _ _ _ (c .before .before .before .pre .inside) .0)
 
 record-of-requires : tie.Need-record-of-requires
-record-of-requires c κs = let fit = fits _ _ (c .before .before .before .before .before .pre .fits) in (omega arith, within _ _ _ _ (c .before .before .before .before .before .pre .inside) .0)
+record-of-requires c κs = let fit = fits-stored _ (c .before .before .before .before .before .pre .fits) in (omega arith, within _ _ _ _ (c .before .before .before .before .before .pre .inside) .0)
 
 count-table-requires : tie.Need-count-table-requires
 count-table-requires c κs =
     let pre = c .before .before .before .before .before .before .before .before .pre in
-    let fit = fits _ _ (pre .fits) in
+    let fit = fits-stored _ (pre .fits) in
     let inside = within _ _ _ _ (pre .inside) in
     record { fits = pre .fits; holds = omega (arith, c .before .before .before .before .first-word .ensures, c .before .table-entries .ensures); accepted = λ i l. rw (c .before .before .before .before .first-word .ensures) (pre .accepted i (omega (arith, c .before .table-entries .ensures))); placed = λ i l. rw (c .before .before .before .before .first-word .ensures) (pre .placed i (omega (arith, c .before .table-entries .ensures))) }
 
@@ -28,7 +28,7 @@ returns c =
 
 put-types-requires : tie.Need-put-types-requires
 put-types-requires c κs =
-    let fit = fits _ _ (c .before .before .before .before .before .before .before .before .before .before .before .before .before .before .before .pre .fits) in
+    let fit = fits-stored _ (c .before .before .before .before .before .before .before .before .before .before .before .before .before .before .before .pre .fits) in
     let inside = within _ _ _ _ (c .before .before .before .before .before .before .before .before .before .before .before .before .before .before .before .pre .inside) in
     omega (arith, c .before .before .before .before .before .before .before .before .before .record-of .ensures .is, c .before .table-blocks .ensures .0)
 

@@ -5,7 +5,7 @@ use borrow.Author.Tests.{not-true, not-false}
 use Rattle.words.proofs.Bounded.{told, any-none}
 use Rattle.rules.specs.Create.{createOutcome}
 use Rattle.rules.proofs.Refusals.{passed, now, rest}
-use Rattle.rules.proofs.State.{fits}
+use Rattle.rules.proofs.State.{fits-stored}
 use Rattle.ledger.proofs.Judge.{decides, none, here, past, refused, accepted, leaves-refused, leaves-accepted, hashed-refused, hashed-accepted}
 use Rattle.validation.proofs.Clashes.{all-placed}
 use Rattle.validation.proofs.Bits.{empty-set}
@@ -40,7 +40,7 @@ returns-2 c = let counted = c .before .before .before .change-table .ensures in
 
 admit-members-requires : tie.Need-admit-members-requires
 admit-members-requires c κs = let start = c .before .before .before .before .before .before .before .before .before .before .before .before .before .before .before .before .before in
-    let fit = fits _ _ (now (passed _ (omega arith) (sym (c .before .before .before .before .before .before .before .before .before .before .create-refusal .ensures .0) ∙ c .before .before .before .before .before .before .before .before .if1 .left))) in
+    let fit = fits-stored _ (now (passed _ (omega arith) (sym (c .before .before .before .before .before .before .before .before .before .before .create-refusal .ensures .0) ∙ c .before .before .before .before .before .before .before .before .if1 .left))) in
     let ready = c .before .before .before .before .before .before .before .before .before .before .create-refusal .ensures .1 (c .before .before .before .before .before .before .before .before .if1 .left) in
     let typed = rw (not-false (c .before .before .before .before .before .before .change-table .result) (c .before .before .before .if2 .left)) at (c .before .before .before .before .before .before .change-table .ensures .leaves) in
     ((omega (arith, c .blocks2 .ensures, c .before .before .before .before .before .before .change-table .kept), omega (arith, c .before .before .before .before .before .before .before .before .before .before .create-refusal .kept), omega (arith, c .blocks2 .ensures)), rw (c .blocks2 .ensures) (still-hashed _ _ _ _ ready typed))

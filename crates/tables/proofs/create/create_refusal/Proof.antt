@@ -3,7 +3,7 @@ use mathlib.Core.Path.{sym, _∙_}
 use native.Mathlib.Omega.{arith}
 use Rattle.words.proofs.Bounded.{told}
 use Rattle.rules.proofs.Refusals.{passed, now}
-use Rattle.rules.proofs.State.{fits, within}
+use Rattle.rules.proofs.State.{fits-stored, within}
 use Rattle.ledger.proofs.Judge.{decides, here, past, refused, accepted, judged}
 use borrow.Author.Needs.{needs}
 use Rattle.tables.proofs.create.create_refusal.Statement.{statement}
@@ -31,12 +31,12 @@ returns-4 c = let image = passed _ (omega arith) (sym (c .before .before .before
     (decides (past (told (c .before .before .before .before .before .before .before .is-misfit-stored .ensures) (c .before .before .before .before .before .before .if1 .left)) (accepted image (accepted place (here (told (c .before .is-counted .ensures) (c .if4 .taken)))))), λ z. let f : ⊥ = omega arith in absurd f)
 
 first-word-requires : tie.Need-first-word-requires
-first-word-requires c κs = let fit = fits _ _ (told (c .before .before .before .before .before .before .before .is-misfit-stored .ensures) (c .before .before .before .before .before .before .if1 .left)) in
+first-word-requires c κs = let fit = fits-stored _ (told (c .before .before .before .before .before .before .before .is-misfit-stored .ensures) (c .before .before .before .before .before .before .if1 .left)) in
     (omega arith, within _ _ _ _ (now (passed _ (omega arith) (sym (c .before .before .before .table-refusal .ensures) ∙ c .before .before .if3 .left))) .0)
 
 new-entries-refusal-requires : tie.Need-new-entries-refusal-requires
 new-entries-refusal-requires c κs = let lawful = told (c .before .before .before .before .before .before .before .before .before .before .before .is-misfit-stored .ensures) (c .before .before .before .before .before .before .before .before .before .before .if1 .left) in
-    let fit = fits _ _ lawful in
+    let fit = fits-stored _ lawful in
     let inside = within _ _ _ _ (now (passed _ (omega arith) (sym (c .before .before .before .before .before .before .before .table-refusal .ensures) ∙ c .before .before .before .before .before .before .if3 .left))) in
     ((lawful, omega (arith, c .before .before .before .first-word .ensures, c .before .before .table-entries .ensures)), c .before .before .before .before .before .before .before .before .before .before .before .before .before .before .before .before .pre)
 

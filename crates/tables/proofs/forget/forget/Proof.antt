@@ -8,7 +8,7 @@ use borrow.Author.Tests.{lt-ltb}
 use Rattle.words.proofs.Bounded.{told}
 use Rattle.rules.specs.Forget.{strayBlocks, forgetOutcome}
 use Rattle.rules.specs.Store.{Store, blocks, base, clearMarks, outside}
-use Rattle.rules.proofs.State.{fits, within}
+use Rattle.rules.proofs.State.{fits-stored, within}
 use Rattle.ledger.proofs.Judge.{decides, none, here, past, leaves-refused, leaves-accepted}
 use Rattle.tables.proofs.forget.forget.Statement.{statement}
 use Rattle.tables.proofs.forget.forget.Tie as tie
@@ -28,10 +28,10 @@ returns-2 c =
     rw (c .if2 .taken) (leaves-accepted _ _ _ (decides (past (told (fit .before .is-misfit-stored .ensures) (fit .if1 .left)) (past refl none))) refl refl refl)
 
 base-requires : tie.Need-base-requires
-base-requires c κs = let fit = c .before .before in let f = fits _ _ (told (fit .before .is-misfit-stored .ensures) (fit .if1 .left)) in omega arith
+base-requires c κs = let fit = c .before .before in let f = fits-stored _ (told (fit .before .is-misfit-stored .ensures) (fit .if1 .left)) in omega arith
 
 is-outside-requires : tie.Need-is-outside-requires
-is-outside-requires c κs = let fit = c .before .before .before .before in let f = fits _ _ (told (fit .before .is-misfit-stored .ensures) (fit .if1 .left)) in omega (arith, c .blocks2 .ensures)
+is-outside-requires c κs = let fit = c .before .before .before .before in let f = fits-stored _ (told (fit .before .is-misfit-stored .ensures) (fit .if1 .left)) in omega (arith, c .blocks2 .ensures)
 
 returns-3 : tie.Need-returns-3
 unfolding forgetOutcome
@@ -45,7 +45,7 @@ record-of-requires : tie.Need-record-of-requires
 record-of-requires c κs =
     let test = c .before in
     let fit = test .before .before .before .before .before .before in
-    let f = fits _ _ (told (fit .before .is-misfit-stored .ensures) (fit .if1 .left)) in
+    let f = fits-stored _ (told (fit .before .is-misfit-stored .ensures) (fit .if1 .left)) in
     let inside = within _ _ _ _ (told (test .before .is-outside .ensures) (test .if3 .left)) in
     let first = test .before .before .before .base .ensures in (omega arith, omega arith)
 
@@ -53,7 +53,7 @@ clear-marks-requires : tie.Need-clear-marks-requires
 clear-marks-requires c κs =
     let test = c .before .before .before in
     let fit = test .before .before .before .before .before .before in
-    let f = fits _ _ (told (fit .before .is-misfit-stored .ensures) (fit .if1 .left)) in
+    let f = fits-stored _ (told (fit .before .is-misfit-stored .ensures) (fit .if1 .left)) in
     let inside = within _ _ _ _ (told (test .before .is-outside .ensures) (test .if3 .left)) in
     omega (arith, test .before .before .before .base .ensures, test .before .before .blocks2 .ensures, c .before .record-of .ensures .is)
 

@@ -4,7 +4,7 @@ use native.Mathlib.Omega.{arith}
 use borrow.Author.Needs.{needs}
 use Rattle.words.proofs.Bounded.{told}
 use Rattle.rules.proofs.Refusals.{passed, now}
-use Rattle.rules.proofs.State.{fits, within}
+use Rattle.rules.proofs.State.{fits-stored, within}
 use Rattle.ledger.proofs.Judge.{decides, here, past, refused, accepted, judged}
 use Rattle.tables.proofs.free.free_refusal.Statement.{statement}
 use Rattle.tables.proofs.free.free_refusal.Tie as tie
@@ -28,13 +28,13 @@ returns-3 c =
 
 first-word-requires : tie.Need-first-word-requires
 first-word-requires c κs =
-    let fit = fits _ _ (told (c .before .before .before .before .before .before .is-misfit-stored .ensures) (c .before .before .before .before .before .if1 .left)) in
+    let fit = fits-stored _ (told (c .before .before .before .before .before .before .is-misfit-stored .ensures) (c .before .before .before .before .before .if1 .left)) in
     (omega arith, within _ _ _ _ (now (passed _ (omega arith) (sym (rw (c .before .before .before .before .table-type .ensures) at (c .before .before .before .table-refusal .ensures)) ∙ c .before .before .if2 .left))) .0)
 
 old-entries-refusal-requires : tie.Need-old-entries-refusal-requires
 old-entries-refusal-requires c κs =
     let lawful = told (c .before .before .before .before .before .before .before .before .is-misfit-stored .ensures) (c .before .before .before .before .before .before .before .if1 .left) in
-    let fit = fits _ _ lawful in
+    let fit = fits-stored _ lawful in
     let inside = within _ _ _ _ (now (passed _ (omega arith) (sym (rw (c .before .before .before .before .before .before .table-type .ensures) at (c .before .before .before .before .before .table-refusal .ensures)) ∙ c .before .before .before .before .if2 .left))) in
     (lawful, omega (arith, c .before .first-word .ensures, c .table-entries .ensures))
 

@@ -3,16 +3,16 @@ use mathlib.Core.Path.{refl, sym, _∙_}
 use native.Mathlib.Omega.{arith}
 use borrow.Author.Needs.{needs}
 use Rattle.words.proofs.Bounded.{told}
-use Rattle.rules.proofs.State.{fits, within}
+use Rattle.rules.proofs.State.{fits-stored, within}
 use Rattle.tables.proofs.TableRecords.{someCount-is}
 use Rattle.tables.proofs.own.is_counted.Statement.{statement}
 use Rattle.tables.proofs.own.is_counted.Tie as tie
 
 record-of-requires : tie.Need-record-of-requires
-record-of-requires c κs = let fit = fits _ _ (c .before .before .pre .0) in (omega arith, within _ _ _ _ (c .before .before .pre .1) .0)
+record-of-requires c κs = let fit = fits-stored _ (c .before .before .pre .0) in (omega arith, within _ _ _ _ (c .before .before .pre .1) .0)
 
 some-above-zero-requires : tie.Need-some-above-zero-requires
-some-above-zero-requires c κs = let fit = fits _ _ (c .before .before .before .before .pre .0) in (omega arith, omega (arith, within _ _ _ _ (c .before .before .before .before .pre .1), c .before .record-of .ensures .is))
+some-above-zero-requires c κs = let fit = fits-stored _ (c .before .before .before .before .pre .0) in (omega arith, omega (arith, within _ _ _ _ (c .before .before .before .before .pre .1), c .before .record-of .ensures .is))
 
 returns : tie.Need-returns
 returns c =
@@ -20,7 +20,7 @@ returns c =
     sym (someCount-is _ _ _ (within _ _ _ _ (c .before .before .before .before .before .before .pre .1) .0) ∙ (rw w refl))
 
 some-above-zero-requires-2 : tie.Need-some-above-zero-requires-2
-some-above-zero-requires-2 c κs = let fit = fits _ _ (c .before .before .before .before .before .before .pre .0) in (omega arith, omega (arith, within _ _ _ _ (c .before .before .before .before .before .before .pre .1), c .before .before .before .record-of .ensures .is))
+some-above-zero-requires-2 c κs = let fit = fits-stored _ (c .before .before .before .before .before .before .pre .0) in (omega arith, omega (arith, within _ _ _ _ (c .before .before .before .before .before .before .pre .1), c .before .before .before .record-of .ensures .is))
 
 returns-2 : tie.Need-returns-2
 returns-2 c =
@@ -29,7 +29,7 @@ returns-2 c =
     sym (someCount-is _ _ _ (within _ _ _ _ (c .before .before .before .before .before .before .before .before .pre .1) .0) ∙ (rw (w, x) refl))
 
 some-above-zero-requires-3 : tie.Need-some-above-zero-requires-3
-some-above-zero-requires-3 c κs = let fit = fits _ _ (c .before .before .before .before .before .before .before .before .pre .0) in (omega arith, omega (arith, within _ _ _ _ (c .before .before .before .before .before .before .before .before .pre .1), c .before .before .before .before .before .record-of .ensures .is))
+some-above-zero-requires-3 c κs = let fit = fits-stored _ (c .before .before .before .before .before .before .before .before .pre .0) in (omega arith, omega (arith, within _ _ _ _ (c .before .before .before .before .before .before .before .before .pre .1), c .before .before .before .before .before .record-of .ensures .is))
 
 returns-3 : tie.Need-returns-3
 returns-3 c =

@@ -1,7 +1,7 @@
 -- Each return is decided by the tests up to its own; what is hashed settles 12 and the number.
 use mathlib.Core.Path.{refl}
 use native.Mathlib.Omega.{arith}
-use Rattle.rules.proofs.State.{fits}
+use Rattle.rules.proofs.State.{fits-stored}
 use Rattle.ledger.proofs.Judge.{decides, none, here, past}
 use Rattle.validation.proofs.Clashes.{clash-found, unsigned-found, gathered-inside, admitted}
 use Rattle.validation.proofs.Hashing.{region-unknown, region-known, region-counted}
@@ -18,7 +18,7 @@ hash-members-requires : tie.Need-hash-members-requires
 hash-members-requires c κs = (c .before .before .before .before .before .before .pre .0 .0 .fits, c .before .before .before .before .before .before .pre .0 .1, gathered-inside _ _ _ _ (c .before .before .before .before .before .before .pre .1 .0) (c .before .before .before .before .before .before .pre .0 .0 .placed))
 
 returns-2 : tie.Need-returns-2
-returns-2 c = let fit = fits _ _ (c .before .before .before .before .before .before .before .before .pre .0 .0 .fits) in
+returns-2 c = let fit = fits-stored _ (c .before .before .before .before .before .before .before .before .pre .0 .0 .fits) in
     (decides (past (clash-found _ _ _ _ (c .before .before .before .before .before .before .before .before .pre .1 .0) (c .before .before .before .before .before .before .before .before .pre .1 .1) (c .before .before .before .before .before .before .before .before .pre .0 .0 .placed) (c .before .before .before .some-clashes .ensures) (c .before .before .if1 .left)) (here (unsigned-found _ _ _ _ (c .before .before .before .before .before .before .before .before .pre .1 .0) _ refl (region-unknown _ _ _ (c .before .hash-members .ensures) (omega arith) (c .if2 .taken))))), λ z. let f : ⊥ = omega arith in absurd f)
 
 returns-3 : tie.Need-returns-3

@@ -4,20 +4,20 @@ use borrow.Author.Needs.{needs}
 use Rattle.words.proofs.Bounded.{told}
 use Rattle.rules.specs.Store.{executable}
 use Rattle.rules.proofs.Gains.{grants-place}
-use Rattle.rules.proofs.State.{fits}
+use Rattle.rules.proofs.State.{fits-stored}
 use Rattle.rules.proofs.Walk.{cover-within}
 use Rattle.validation.proofs.Clashes.{executed-joins, none-joins}
 use Rattle.validation.proofs.executed.insert_executed.Statement.{statement}
 use Rattle.validation.proofs.executed.insert_executed.Tie as tie
 
 record-of-requires : tie.Need-record-of-requires
-record-of-requires c κs = let fit = fits _ _ (c .before .before .before .before .before .before .pre .0 .0) in
+record-of-requires c κs = let fit = fits-stored _ (c .before .before .before .before .before .before .pre .0 .0) in
     let g = told (c .before .before .grants .ensures) (c .before .if1 .taken) in
     let (lo, hi) = cover-within _ _ _ (grants-place executable _ g) (c .before .before .before .before .before .before .pre .0 .1) in
     rw (c .cover-first .ensures) (omega arith, lo)
 
 insert-blocks-requires : tie.Need-insert-blocks-requires
-insert-blocks-requires c κs = let fit = fits _ _ (c .before .before .before .before .before .before .before .before .before .pre .0 .0) in
+insert-blocks-requires c κs = let fit = fits-stored _ (c .before .before .before .before .before .before .before .before .before .pre .0 .0) in
     let g = told (c .before .before .before .before .before .grants .ensures) (c .before .before .before .before .if1 .taken) in
     let (lo, hi) = cover-within _ _ _ (grants-place executable _ g) (c .before .before .before .before .before .before .before .before .before .pre .0 .1) in
     (c .before .before .before .before .before .before .before .before .before .pre .1, omega (arith, c .before .before .record-of .ensures .is, c .before .before .before .cover-first .ensures, c .cover-blocks .ensures))

@@ -5,7 +5,7 @@ use borrow.Author.Needs.{needs}
 use Rattle.words.proofs.Bounded.{told}
 use Rattle.rules.specs.Store.{writable}
 use Rattle.rules.proofs.Gains.{grants-place}
-use Rattle.rules.proofs.State.{fits}
+use Rattle.rules.proofs.State.{fits-stored}
 use Rattle.rules.proofs.Walk.{cover-within}
 use Rattle.ledger.proofs.Blocks.{someBlock-records}
 use Rattle.validation.specs.Sets.{member, meetsMembers}
@@ -13,13 +13,13 @@ use Rattle.validation.proofs.executed.meets_members.Statement.{statemen
 use Rattle.validation.proofs.executed.meets_members.Tie as tie
 
 record-of-requires : tie.Need-record-of-requires
-record-of-requires c κs = let fit = fits _ _ (c .before .before .before .before .before .before .pre .0 .0) in
+record-of-requires c κs = let fit = fits-stored _ (c .before .before .before .before .before .before .pre .0 .0) in
     let g = told (c .before .before .grants .ensures) (c .before .if1 .taken) in
     let (lo, hi) = cover-within _ _ _ (grants-place writable _ g) (c .before .before .before .before .before .before .pre .0 .1) in
     rw (c .cover-first .ensures) (omega arith, lo)
 
 contains-some-requires : tie.Need-contains-some-requires
-contains-some-requires c κs = let fit = fits _ _ (c .before .before .before .before .before .before .before .before .pre .0 .0) in
+contains-some-requires c κs = let fit = fits-stored _ (c .before .before .before .before .before .before .before .before .pre .0 .0) in
     let g = told (c .before .before .before .before .grants .ensures) (c .before .before .before .if1 .taken) in
     let (lo, hi) = cover-within _ _ _ (grants-place writable _ g) (c .before .before .before .before .before .before .before .before .pre .0 .1) in
     (c .before .before .before .before .before .before .before .before .pre .1, omega (arith, c .before .record-of .ensures .is, c .before .before .cover-first .ensures, c .cover-blocks .ensures))

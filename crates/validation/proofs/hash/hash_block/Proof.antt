@@ -4,7 +4,7 @@ use borrow.Author.Tests.{not-true, not-false}
 use borrow.Author.Needs.{needs}
 use Rattle.words.proofs.Bounded.{told}
 use Rattle.rules.specs.Store.{lent}
-use Rattle.rules.proofs.State.{fits}
+use Rattle.rules.proofs.State.{fits-stored}
 use Rattle.validation.proofs.Hashing.{member-inside, block-out, block-marked, block-signed, block-unsigned}
 use Rattle.validation.proofs.hash.hash_block.Statement.{statement}
 use Rattle.validation.proofs.hash.hash_block.Tie as tie
@@ -15,7 +15,7 @@ returns c = block-out _ _ _ _ (told (c .before .contains .ensures) (not-true _ (
 is-marked-requires : tie.Need-is-marked-requires
 is-marked-requires c κs =
     let at = c .before .before .before .before .before .before in
-    let fit = fits _ _ (at .pre .0) in
+    let fit = fits-stored _ (at .pre .0) in
     let l = member-inside (lent (at .args .memory .now) (at .args .ledger .now)) (at .args .members .now) (at .pre .2) (at .args .b) (told (c .before .contains .ensures) (not-false _ (c .if1 .left))) in
     omega arith
 
@@ -23,19 +23,19 @@ returns-2 : tie.Need-returns-2
 returns-2 c = block-marked _ _ _ _ (told (c .before .before .before .contains .ensures) (not-false _ (c .before .before .if1 .left))) (told (c .before .is-marked .ensures) (c .if2 .taken))
 
 base-requires : tie.Need-base-requires
-base-requires c κs = let fit = fits _ _ (c .before .before .before .before .before .before .before .before .pre .0) in omega arith
+base-requires c κs = let fit = fits-stored _ (c .before .before .before .before .before .before .before .before .pre .0) in omega arith
 
 add-is-signed-block : tie.Need-add-is-signed-block
 add-is-signed-block c =
     let at = c .before .before .before .before .before .before .before .before .before in
-    let fit = fits _ _ (at .pre .0) in
+    let fit = fits-stored _ (at .pre .0) in
     let l = member-inside (lent (at .args .memory .now) (at .args .ledger .now)) (at .args .members .now) (at .pre .2) (at .args .b) (told (c .before .before .before .before .contains .ensures) (not-false _ (c .before .before .before .if1 .left))) in
     omega (arith, c .base .ensures)
 
 is-signed-block-requires : tie.Need-is-signed-block-requires
 is-signed-block-requires c κs =
     let at = c .before .before .before .before .before .before .before .before .before in
-    let fit = fits _ _ (at .pre .0) in
+    let fit = fits-stored _ (at .pre .0) in
     let l = member-inside (lent (at .args .memory .now) (at .args .ledger .now)) (at .args .members .now) (at .pre .2) (at .args .b) (told (c .before .before .before .before .contains .ensures) (not-false _ (c .before .before .before .if1 .left))) in
     rw (c .base .ensures) (omega arith, omega arith)
 

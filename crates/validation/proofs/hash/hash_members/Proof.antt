@@ -2,7 +2,7 @@
 use Prim.Native.Nat.{_-_, _*_, _≤_}
 use native.Mathlib.Omega.{arith}
 use Rattle.rules.specs.Store.{lent}
-use Rattle.rules.proofs.State.{fits}
+use Rattle.rules.proofs.State.{fits-stored}
 use Rattle.validation.proofs.Hashing.{Known, known-start, known-most, known-next, known-answer, known-region, unknown-region, answer-known}
 use Rattle.validation.proofs.hash.hash_members.Statement.{statement}
 use Rattle.validation.proofs.hash.hash_members.Tie as tie
@@ -32,7 +32,7 @@ loop-again : tie.Need-loop-again Inv-loop μ-loop
 loop-again c = (omega arith, known-next _ _ _ 0 (8 * c .before .before .before .loop .i) _ 8 _ (omega arith) (omega arith) (c .before .before .before .loop .inv .1) (c .before .hash-byte .ensures) (c .if1 .left))
 
 returns-2 : tie.Need-returns-2 Inv-loop μ-loop
-returns-2 c = let fit = fits _ _ (c .before .before .before .before .before .before .pre .0) in known-answer _ _ _ (known-region _ _ _ (c .before .before .before .before .before .before .pre .2) (8 * c .before .loop .i) (omega arith) (c .before .loop .inv .1))
+returns-2 c = let fit = fits-stored _ (c .before .before .before .before .before .before .pre .0) in known-answer _ _ _ (known-region _ _ _ (c .before .before .before .before .before .before .pre .2) (8 * c .before .loop .i) (omega arith) (c .before .loop .inv .1))
 
 pub hash-members-spec : {M : Type 1} → statement M
 hash-members-spec =

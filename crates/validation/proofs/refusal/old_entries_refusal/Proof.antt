@@ -2,17 +2,17 @@
 use native.Mathlib.Omega.{arith}
 use borrow.Author.Needs.{needs}
 use Rattle.rules.specs.Store.{lent}
-use Rattle.rules.proofs.State.{fits}
+use Rattle.rules.proofs.State.{fits-stored}
 use Rattle.ledger.proofs.Judge.{decides}
 use Rattle.validation.proofs.Surveys.{old-unaccepted, old-astray, old-none}
 use Rattle.validation.proofs.refusal.old_entries_refusal.Statement.{statement}
 use Rattle.validation.proofs.refusal.old_entries_refusal.Tie as tie
 
 base-requires : tie.Need-base-requires
-base-requires c κs = let fit = fits _ _ (c .before .before .pre .0) in omega arith
+base-requires c κs = let fit = fits-stored _ (c .before .before .pre .0) in omega arith
 
 survey-old-requires : tie.Need-survey-old-requires
-survey-old-requires c κs = let fit = fits _ _ (c .before .before .before .before .pre .0) in (c .before .before .before .before .pre .1, omega (arith, c .blocks2 .ensures))
+survey-old-requires c κs = let fit = fits-stored _ (c .before .before .before .before .pre .0) in (c .before .before .before .before .pre .1, omega (arith, c .blocks2 .ensures))
 
 returns : tie.Need-returns
 returns c = decides (old-unaccepted (lent (c .before .before .before .before .before .before .args .memory .now) (c .before .before .before .before .before .before .args .ledger .now)) _ _ (rw (c .before .before .before .base .ensures, c .before .before .blocks2 .ensures) at (c .before .survey-old .ensures)) (c .if1 .taken))

@@ -3,7 +3,7 @@ use mathlib.Core.Path.{_∙_}
 use native.Mathlib.Omega.{arith}
 use Rattle.words.proofs.Bounded.{told}
 use Rattle.rules.specs.Store.{lent}
-use Rattle.rules.proofs.State.{fits}
+use Rattle.rules.proofs.State.{fits-stored}
 use Rattle.validation.proofs.Covers.{entry-recorded}
 use Rattle.validation.proofs.Surveys.{found-unaccepted, found-astray, found-target, found-idle, idle-gathers}
 use borrow.Author.Needs.{needs}
@@ -14,10 +14,10 @@ returns : tie.Need-returns
 returns c = (found-unaccepted _ _ _ _ (told (c .before .is-unaccepted .ensures) (c .if1 .taken)), λ z. let f : ⊥ = omega arith in absurd f)
 
 base-requires : tie.Need-base-requires
-base-requires c κs = let fit = fits _ _ (c .before .before .before .before .before .pre .0) in omega arith
+base-requires c κs = let fit = fits-stored _ (c .before .before .before .before .before .pre .0) in omega arith
 
 is-astray-requires : tie.Need-is-astray-requires
-is-astray-requires c κs = let fit = fits _ _ (c .before .before .before .before .before .before .before .pre .0) in omega (arith, c .blocks2 .ensures)
+is-astray-requires c κs = let fit = fits-stored _ (c .before .before .before .before .before .before .before .pre .0) in omega (arith, c .blocks2 .ensures)
 
 returns-2 : tie.Need-returns-2
 returns-2 c = (found-astray _ _ _ _ (told (c .before .before .before .before .before .is-unaccepted .ensures) (c .before .before .before .before .if1 .left)) (told (rw (c .before .before .before .base .ensures, c .before .before .blocks2 .ensures) at (c .before .is-astray .ensures)) (c .if2 .taken)), λ z. let f : ⊥ = omega arith in absurd f)
