@@ -1,4 +1,4 @@
--- Lists 7 to 12 and 14 hold of every sequence of calls (lists 13): whoever makes them, they leave and hand out what a run of their steps does.
+-- Lists 7 to 12, 14 and 15 hold of every sequence of calls (lists 13): whoever makes them, they leave and hand out what a run of their steps does.
 use mathlib.Core.List.{List, [], _∷_, _++_}
 use mathlib.Core.Path.{_≡_, refl, sym, _∙_, ap}
 use Prim.Native.Nat.{ℕ}
@@ -13,20 +13,24 @@ use Rattle.rules.specs.Demand3.{storeAt}
 use Rattle.rules.specs.Upheld.{Upholds}
 use Rattle.rules.proofs.Outcomes.{begin-byte, create-byte, free-byte, map-byte, link-byte, unmap-byte, switch-byte, write-byte, forget-byte}
 use Rattle.rules.proofs.Upheld.{run-upholds-demand3}
-use Rattle.monitor.specs.Calls.{Called, pagemon-begin, pagemon-create-l1, pagemon-create-l2, pagemon-free-l1, pagemon-free-l2, pagemon-map-l1, pagemon-map-l2, pagemon-map-large, pagemon-link, pagemon-unmap-l1, pagemon-unmap-l2, pagemon-unmap-large, pagemon-switch, pagemon-read, pagemon-fetch, pagemon-write, pagemon-forget, Calls, done, call}
+use Rattle.monitor.specs.Calls.{Called, pagemon-begin, pagemon-begin-kinds, pagemon-create-l1, pagemon-create-l2, pagemon-free-l1, pagemon-free-l2, pagemon-map-l1, pagemon-map-l1-kind, pagemon-map-l2, pagemon-map-l2-kind, pagemon-map-large, pagemon-map-large-kind, pagemon-link, pagemon-unmap-l1, pagemon-unmap-l2, pagemon-unmap-large, pagemon-switch, pagemon-read, pagemon-fetch, pagemon-write, pagemon-forget, Calls, done, call}
 
 -- a call obeys its step
 pub called-obeys : {golden : List ℕ} {s after : Store} {step : Step} {answer byte : ℕ} → Called golden s step after answer byte
     → (answer ≡ obey golden s step .answer) × ((byte ≡ obey golden s step .byte) × (after ≡ obey golden s step .after))
 unfolding obey
-called-obeys (pagemon-begin a l) = (a, (begin-byte _ _, l))
+called-obeys (pagemon-begin a l) = (a, (begin-byte _ _ _, l))
+called-obeys (pagemon-begin-kinds a l) = (a, (begin-byte _ _ _, l))
 called-obeys (pagemon-create-l1 a l) = (a, (create-byte _ _ _ _, l))
 called-obeys (pagemon-create-l2 a l) = (a, (create-byte _ _ _ _, l))
 called-obeys (pagemon-free-l1 a l) = (a, (free-byte _ _ _, l))
 called-obeys (pagemon-free-l2 a l) = (a, (free-byte _ _ _, l))
-called-obeys (pagemon-map-l1 a l) = (a, (map-byte _ _ _ _ _ _ _, l))
-called-obeys (pagemon-map-l2 a l) = (a, (map-byte _ _ _ _ _ _ _, l))
-called-obeys (pagemon-map-large a l) = (a, (map-byte _ _ _ _ _ _ _, l))
+called-obeys (pagemon-map-l1 a l) = (a, (map-byte _ _ _ _ _ _ _ _, l))
+called-obeys (pagemon-map-l1-kind a l) = (a, (map-byte _ _ _ _ _ _ _ _, l))
+called-obeys (pagemon-map-l2 a l) = (a, (map-byte _ _ _ _ _ _ _ _, l))
+called-obeys (pagemon-map-l2-kind a l) = (a, (map-byte _ _ _ _ _ _ _ _, l))
+called-obeys (pagemon-map-large a l) = (a, (map-byte _ _ _ _ _ _ _ _, l))
+called-obeys (pagemon-map-large-kind a l) = (a, (map-byte _ _ _ _ _ _ _ _, l))
 called-obeys (pagemon-link a l) = (a, (link-byte _ _ _ _ _, l))
 called-obeys (pagemon-unmap-l1 a l) = (a, (unmap-byte _ _ _ _, l))
 called-obeys (pagemon-unmap-l2 a l) = (a, (unmap-byte _ _ _ _, l))
@@ -47,7 +51,7 @@ calls-run (call c cs) =
     let (reached, (said, given)) = rw l at (calls-run cs) in
     (reached, (rw (a, said) refl, rw (b, given) refl))
 
--- the named theorem, lists 13: lists 7 to 12 and 14 of exactly what is left and handed out by every sequence of calls, whoever makes them, over whatever was lent
+-- the named theorem, lists 13: lists 7 to 12, 14 and 15 of exactly what is left and handed out by every sequence of calls, whoever makes them, over whatever was lent
 pub calls-uphold-demand3 : {golden : List ℕ} {s left : Store} {steps : List Step} {answers bytes : List ℕ}
     → Calls golden s steps left answers bytes → Upholds golden s steps left answers bytes
 calls-uphold-demand3 {golden} {s} {left} {steps} cs =
@@ -62,14 +66,14 @@ store-passed {golden} {s} {left} {steps} cs more = ap (λ (first : List Step). r
 -- every step is some call's, with what it comes to
 step-called : (golden : List ℕ) (s : Store) (step : Step) → (let o = obey golden s step in Called golden s step (o .after) (o .answer) (o .byte))
 unfolding obey
-step-called golden s (begins first) = rw (← begin-byte s first) (pagemon-begin refl refl)
+step-called golden s (begins kinds first) = rw (← begin-byte s kinds first) (pagemon-begin-kinds refl refl)
 step-called golden s (creates l1 block) = rw (← create-byte l1 golden s block) (pagemon-create-l1 refl refl)
 step-called golden s (creates l2 block) = rw (← create-byte l2 golden s block) (pagemon-create-l2 refl refl)
 step-called golden s (frees l1 block) = rw (← free-byte l1 s block) (pagemon-free-l1 refl refl)
 step-called golden s (frees l2 block) = rw (← free-byte l2 s block) (pagemon-free-l2 refl refl)
-step-called golden s (maps sections block index target rights) = rw (← map-byte sections golden s block index target rights) (pagemon-map-l1 refl refl)
-step-called golden s (maps pages block index target rights) = rw (← map-byte pages golden s block index target rights) (pagemon-map-l2 refl refl)
-step-called golden s (maps larges block index target rights) = rw (← map-byte larges golden s block index target rights) (pagemon-map-large refl refl)
+step-called golden s (maps sections block index target rights kind) = rw (← map-byte sections golden s block index target rights kind) (pagemon-map-l1-kind refl refl)
+step-called golden s (maps pages block index target rights kind) = rw (← map-byte pages golden s block index target rights kind) (pagemon-map-l2-kind refl refl)
+step-called golden s (maps larges block index target rights kind) = rw (← map-byte larges golden s block index target rights kind) (pagemon-map-large-kind refl refl)
 step-called golden s (links block index target table) = rw (← link-byte s block index target table) (pagemon-link refl refl)
 step-called golden s (unmaps sections block index) = rw (← unmap-byte sections s block index) (pagemon-unmap-l1 refl refl)
 step-called golden s (unmaps pages block index) = rw (← unmap-byte pages s block index) (pagemon-unmap-l2 refl refl)

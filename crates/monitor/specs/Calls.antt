@@ -5,10 +5,10 @@ use Prim.Native.Nat.{ℕ}
 use Rattle.entries.specs.Entries.{l1, l2}
 use Rattle.rules.specs.Store.{Store}
 use Rattle.rules.specs.Tables.{sections, pages, larges}
-use Rattle.rules.specs.Begin.{beginOutcome}
+use Rattle.rules.specs.Begin.{cachedKinds, beginOutcome}
 use Rattle.rules.specs.Create.{createOutcome}
 use Rattle.rules.specs.Free.{freeOutcome}
-use Rattle.rules.specs.Map.{mapOutcome}
+use Rattle.rules.specs.Map.{firstKind, mapOutcome}
 use Rattle.rules.specs.Link.{linkOutcome}
 use Rattle.rules.specs.Unmap.{unmapOutcome}
 use Rattle.rules.specs.Switch.{switchOutcome}
@@ -19,8 +19,10 @@ use Rattle.rules.specs.Steps.{Step, begins, creates, frees, maps, links, unmaps
 -- promises 1, lists 13: one call of an export, lent an image and a store, by its contract: its step, the store afterwards, its answer, and the byte
 -- that it gives (0 where it gives none); the number of blocks hashed is left out
 pub data Called (golden : List ℕ) (s : Store) : Step → Store → ℕ → ℕ → Type 0 where
-  pagemon-begin : {first answer : ℕ} {after : Store} → answer ≡ beginOutcome s first .answer → after ≡ beginOutcome s first .after
-      → Called golden s (begins first) after answer 0
+  pagemon-begin : {first answer : ℕ} {after : Store} → answer ≡ beginOutcome s cachedKinds first .answer → after ≡ beginOutcome s cachedKinds first .after
+      → Called golden s (begins cachedKinds first) after answer 0
+  pagemon-begin-kinds : {kinds : List ℕ} {first answer : ℕ} {after : Store} → answer ≡ beginOutcome s kinds first .answer → after ≡ beginOutcome s kinds first .after
+      → Called golden s (begins kinds first) after answer 0
   pagemon-create-l1 : {block answer : ℕ} {after : Store} → answer ≡ createOutcome l1 golden s block .answer → after ≡ createOutcome l1 golden s block .after
       → Called golden s (creates l1 block) after answer 0
   pagemon-create-l2 : {block answer : ℕ} {after : Store} → answer ≡ createOutcome l2 golden s block .answer → after ≡ createOutcome l2 golden s block .after
@@ -30,14 +32,23 @@ pub data Called (golden : List ℕ) (s : Store) : Step → Store → ℕ → ℕ
   pagemon-free-l2 : {block answer : ℕ} {after : Store} → answer ≡ freeOutcome l2 s block .answer → after ≡ freeOutcome l2 s block .after
       → Called golden s (frees l2 block) after answer 0
   pagemon-map-l1 : {block index target rights answer : ℕ} {after : Store}
-      → answer ≡ mapOutcome sections golden s block index target rights .answer → after ≡ mapOutcome sections golden s block index target rights .after
-      → Called golden s (maps sections block index target rights) after answer 0
+      → answer ≡ mapOutcome sections golden s block index target rights firstKind .answer → after ≡ mapOutcome sections golden s block index target rights firstKind .after
+      → Called golden s (maps sections block index target rights firstKind) after answer 0
+  pagemon-map-l1-kind : {block index target rights kind answer : ℕ} {after : Store}
+      → answer ≡ mapOutcome sections golden s block index target rights kind .answer → after ≡ mapOutcome sections golden s block index target rights kind .after
+      → Called golden s (maps sections block index target rights kind) after answer 0
   pagemon-map-l2 : {block index target rights answer : ℕ} {after : Store}
-      → answer ≡ mapOutcome pages golden s block index target rights .answer → after ≡ mapOutcome pages golden s block index target rights .after
-      → Called golden s (maps pages block index target rights) after answer 0
+      → answer ≡ mapOutcome pages golden s block index target rights firstKind .answer → after ≡ mapOutcome pages golden s block index target rights firstKind .after
+      → Called golden s (maps pages block index target rights firstKind) after answer 0
+  pagemon-map-l2-kind : {block index target rights kind answer : ℕ} {after : Store}
+      → answer ≡ mapOutcome pages golden s block index target rights kind .answer → after ≡ mapOutcome pages golden s block index target rights kind .after
+      → Called golden s (maps pages block index target rights kind) after answer 0
   pagemon-map-large : {block index target rights answer : ℕ} {after : Store}
-      → answer ≡ mapOutcome larges golden s block index target rights .answer → after ≡ mapOutcome larges golden s block index target rights .after
-      → Called golden s (maps larges block index target rights) after answer 0
+      → answer ≡ mapOutcome larges golden s block index target rights firstKind .answer → after ≡ mapOutcome larges golden s block index target rights firstKind .after
+      → Called golden s (maps larges block index target rights firstKind) after answer 0
+  pagemon-map-large-kind : {block index target rights kind answer : ℕ} {after : Store}
+      → answer ≡ mapOutcome larges golden s block index target rights kind .answer → after ≡ mapOutcome larges golden s block index target rights kind .after
+      → Called golden s (maps larges block index target rights kind) after answer 0
   pagemon-link : {block index target table answer : ℕ} {after : Store}
       → answer ≡ linkOutcome s block index target table .answer → after ≡ linkOutcome s block index target table .after
       → Called golden s (links block index target table) after answer 0

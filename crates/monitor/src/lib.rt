@@ -2,28 +2,43 @@
 // is given, and all of memory and ledger with the rules (promises 1).
 use entries::entry::Level;
 use mapping::form::Form;
+use mapping::request::FIRST_KIND;
 use mapping::request::Request;
 ghost use mathlib.Core.Path.{_≡_};
-ghost use Rattle.rules.specs.Begin.{beginOutcome};
+ghost use Rattle.rules.specs.Begin.{beginOutcome, cachedKinds};
 ghost use Rattle.entries.specs.Entries.{l1, l2};
 ghost use Rattle.rules.specs.Create.{createOutcome};
 ghost use Rattle.rules.specs.Free.{freeOutcome};
 ghost use Rattle.rules.specs.Forget.{forgetOutcome};
 ghost use Rattle.rules.specs.Guest.{fetches, guestOutcome, reads, writes};
 ghost use Rattle.rules.specs.Link.{linkOutcome};
-ghost use Rattle.rules.specs.Map.{mapOutcome};
+ghost use Rattle.rules.specs.Map.{firstKind, mapOutcome};
 ghost use Rattle.rules.specs.Store.{lent};
 ghost use Rattle.rules.specs.Switch.{switchOutcome};
 ghost use Rattle.rules.specs.Tables.{larges, pages, sections};
 ghost use Rattle.rules.specs.Unmap.{unmapOutcome};
 
-// Begin: a region starts at this block.
+// Begin: a region starts at this block, and all its memory kinds are B and C.
 #[no_mangle]
 pub extern "C" fn pagemon_begin(memory: &[u8], ledger: &mut [u8], first: u32) -> u32
-    ensures { λ r. ⌜ r ≡ beginOutcome (lent (now (memory .entry)) (now (ledger .entry))) first .answer ⌝ }
-    ensures { λ r. ⌜ lent (now (memory .entry)) (now (ledger .exit)) ≡ beginOutcome (lent (now (memory .entry)) (now (ledger .entry))) first .after ⌝ }
+    ensures { λ r. ⌜ r ≡ beginOutcome (lent (now (memory .entry)) (now (ledger .entry))) cachedKinds first .answer ⌝ }
+    ensures { λ r. ⌜ lent (now (memory .entry)) (now (ledger .exit)) ≡ beginOutcome (lent (now (memory .entry)) (now (ledger .entry))) cachedKinds first .after ⌝ }
 {
     tables::begin::begin(memory, ledger, first)
+}
+
+// Begin with kinds: a region starts at this block, with these eight memory kinds.
+#[no_mangle]
+pub extern "C" fn pagemon_begin_kinds(
+    memory: &[u8],
+    ledger: &mut [u8],
+    kinds: &[u8],
+    first: u32,
+) -> u32
+    ensures { λ r. ⌜ r ≡ beginOutcome (lent (now (memory .entry)) (now (ledger .entry))) (now (kinds .entry)) first .answer ⌝ }
+    ensures { λ r. ⌜ lent (now (memory .entry)) (now (ledger .exit)) ≡ beginOutcome (lent (now (memory .entry)) (now (ledger .entry))) (now (kinds .entry)) first .after ⌝ }
+{
+    tables::begin::begin_kinds(memory, ledger, kinds, first)
 }
 
 // Create L1: the four blocks from a block become an L1 table, with the entries that its bytes hold.
@@ -76,7 +91,34 @@ pub extern "C" fn pagemon_free_l2(memory: &[u8], ledger: &mut [u8], block: u32) 
     tables::free::free(Level::L2, memory, ledger, block)
 }
 
-// Map L1: a section of 256 blocks with these rights, at an index of an L1 table.
+// Map L1 with a kind: a section of 256 blocks with these rights and the memory kind of this number, at an index of an L1 table.
+#[no_mangle]
+pub extern "C" fn pagemon_map_l1_kind(
+    memory: &mut [u8],
+    ledger: &mut [u8],
+    golden: &[u8],
+    block: u32,
+    index: u32,
+    target: u32,
+    rights: u32,
+    kind: u32,
+    hashed: &mut u32,
+) -> u32
+    ensures { λ r. ⌜ r ≡ mapOutcome sections (now (golden .entry)) (lent (now (memory .entry)) (now (ledger .entry))) block index target rights kind .answer ⌝ }
+    ensures { λ r. ⌜ now (hashed .exit) ≡ mapOutcome sections (now (golden .entry)) (lent (now (memory .entry)) (now (ledger .entry))) block index target rights kind .hashed ⌝ }
+    ensures { λ r. ⌜ lent (now (memory .exit)) (now (ledger .exit)) ≡ mapOutcome sections (now (golden .entry)) (lent (now (memory .entry)) (now (ledger .entry))) block index target rights kind .after ⌝ }
+{
+    let request = Request {
+        block,
+        index,
+        target,
+        rights,
+        kind,
+    };
+    mapping::map::map(Form::Sections, memory, ledger, golden, request, hashed)
+}
+
+// Map L1: the same with kind 0.
 #[no_mangle]
 pub extern "C" fn pagemon_map_l1(
     memory: &mut [u8],
@@ -88,20 +130,51 @@ pub extern "C" fn pagemon_map_l1(
     rights: u32,
     hashed: &mut u32,
 ) -> u32
-    ensures { λ r. ⌜ r ≡ mapOutcome sections (now (golden .entry)) (lent (now (memory .entry)) (now (ledger .entry))) block index target rights .answer ⌝ }
-    ensures { λ r. ⌜ now (hashed .exit) ≡ mapOutcome sections (now (golden .entry)) (lent (now (memory .entry)) (now (ledger .entry))) block index target rights .hashed ⌝ }
-    ensures { λ r. ⌜ lent (now (memory .exit)) (now (ledger .exit)) ≡ mapOutcome sections (now (golden .entry)) (lent (now (memory .entry)) (now (ledger .entry))) block index target rights .after ⌝ }
+    ensures { λ r. ⌜ r ≡ mapOutcome sections (now (golden .entry)) (lent (now (memory .entry)) (now (ledger .entry))) block index target rights firstKind .answer ⌝ }
+    ensures { λ r. ⌜ now (hashed .exit) ≡ mapOutcome sections (now (golden .entry)) (lent (now (memory .entry)) (now (ledger .entry))) block index target rights firstKind .hashed ⌝ }
+    ensures { λ r. ⌜ lent (now (memory .exit)) (now (ledger .exit)) ≡ mapOutcome sections (now (golden .entry)) (lent (now (memory .entry)) (now (ledger .entry))) block index target rights firstKind .after ⌝ }
+{
+    pagemon_map_l1_kind(
+        memory,
+        ledger,
+        golden,
+        block,
+        index,
+        target,
+        rights,
+        FIRST_KIND,
+        hashed,
+    )
+}
+
+// Map L2 with a kind: a page with these rights and the memory kind of this number, at an index of an L2 block.
+#[no_mangle]
+pub extern "C" fn pagemon_map_l2_kind(
+    memory: &mut [u8],
+    ledger: &mut [u8],
+    golden: &[u8],
+    block: u32,
+    index: u32,
+    target: u32,
+    rights: u32,
+    kind: u32,
+    hashed: &mut u32,
+) -> u32
+    ensures { λ r. ⌜ r ≡ mapOutcome pages (now (golden .entry)) (lent (now (memory .entry)) (now (ledger .entry))) block index target rights kind .answer ⌝ }
+    ensures { λ r. ⌜ now (hashed .exit) ≡ mapOutcome pages (now (golden .entry)) (lent (now (memory .entry)) (now (ledger .entry))) block index target rights kind .hashed ⌝ }
+    ensures { λ r. ⌜ lent (now (memory .exit)) (now (ledger .exit)) ≡ mapOutcome pages (now (golden .entry)) (lent (now (memory .entry)) (now (ledger .entry))) block index target rights kind .after ⌝ }
 {
     let request = Request {
         block,
         index,
         target,
         rights,
+        kind,
     };
-    mapping::map::map(Form::Sections, memory, ledger, golden, request, hashed)
+    mapping::map::map(Form::Pages, memory, ledger, golden, request, hashed)
 }
 
-// Map L2: a page with these rights, at an index of an L2 block.
+// Map L2: the same with kind 0.
 #[no_mangle]
 pub extern "C" fn pagemon_map_l2(
     memory: &mut [u8],
@@ -113,20 +186,51 @@ pub extern "C" fn pagemon_map_l2(
     rights: u32,
     hashed: &mut u32,
 ) -> u32
-    ensures { λ r. ⌜ r ≡ mapOutcome pages (now (golden .entry)) (lent (now (memory .entry)) (now (ledger .entry))) block index target rights .answer ⌝ }
-    ensures { λ r. ⌜ now (hashed .exit) ≡ mapOutcome pages (now (golden .entry)) (lent (now (memory .entry)) (now (ledger .entry))) block index target rights .hashed ⌝ }
-    ensures { λ r. ⌜ lent (now (memory .exit)) (now (ledger .exit)) ≡ mapOutcome pages (now (golden .entry)) (lent (now (memory .entry)) (now (ledger .entry))) block index target rights .after ⌝ }
+    ensures { λ r. ⌜ r ≡ mapOutcome pages (now (golden .entry)) (lent (now (memory .entry)) (now (ledger .entry))) block index target rights firstKind .answer ⌝ }
+    ensures { λ r. ⌜ now (hashed .exit) ≡ mapOutcome pages (now (golden .entry)) (lent (now (memory .entry)) (now (ledger .entry))) block index target rights firstKind .hashed ⌝ }
+    ensures { λ r. ⌜ lent (now (memory .exit)) (now (ledger .exit)) ≡ mapOutcome pages (now (golden .entry)) (lent (now (memory .entry)) (now (ledger .entry))) block index target rights firstKind .after ⌝ }
+{
+    pagemon_map_l2_kind(
+        memory,
+        ledger,
+        golden,
+        block,
+        index,
+        target,
+        rights,
+        FIRST_KIND,
+        hashed,
+    )
+}
+
+// Map large with a kind: a large page of sixteen blocks with these rights and the memory kind of this number, in the sixteen words from an index of an L2 block.
+#[no_mangle]
+pub extern "C" fn pagemon_map_large_kind(
+    memory: &mut [u8],
+    ledger: &mut [u8],
+    golden: &[u8],
+    block: u32,
+    index: u32,
+    target: u32,
+    rights: u32,
+    kind: u32,
+    hashed: &mut u32,
+) -> u32
+    ensures { λ r. ⌜ r ≡ mapOutcome larges (now (golden .entry)) (lent (now (memory .entry)) (now (ledger .entry))) block index target rights kind .answer ⌝ }
+    ensures { λ r. ⌜ now (hashed .exit) ≡ mapOutcome larges (now (golden .entry)) (lent (now (memory .entry)) (now (ledger .entry))) block index target rights kind .hashed ⌝ }
+    ensures { λ r. ⌜ lent (now (memory .exit)) (now (ledger .exit)) ≡ mapOutcome larges (now (golden .entry)) (lent (now (memory .entry)) (now (ledger .entry))) block index target rights kind .after ⌝ }
 {
     let request = Request {
         block,
         index,
         target,
         rights,
+        kind,
     };
-    mapping::map::map(Form::Pages, memory, ledger, golden, request, hashed)
+    mapping::map::map(Form::Larges, memory, ledger, golden, request, hashed)
 }
 
-// Map large: a large page of sixteen blocks with these rights, in the sixteen words from an index of an L2 block.
+// Map large: the same with kind 0.
 #[no_mangle]
 pub extern "C" fn pagemon_map_large(
     memory: &mut [u8],
@@ -138,17 +242,21 @@ pub extern "C" fn pagemon_map_large(
     rights: u32,
     hashed: &mut u32,
 ) -> u32
-    ensures { λ r. ⌜ r ≡ mapOutcome larges (now (golden .entry)) (lent (now (memory .entry)) (now (ledger .entry))) block index target rights .answer ⌝ }
-    ensures { λ r. ⌜ now (hashed .exit) ≡ mapOutcome larges (now (golden .entry)) (lent (now (memory .entry)) (now (ledger .entry))) block index target rights .hashed ⌝ }
-    ensures { λ r. ⌜ lent (now (memory .exit)) (now (ledger .exit)) ≡ mapOutcome larges (now (golden .entry)) (lent (now (memory .entry)) (now (ledger .entry))) block index target rights .after ⌝ }
+    ensures { λ r. ⌜ r ≡ mapOutcome larges (now (golden .entry)) (lent (now (memory .entry)) (now (ledger .entry))) block index target rights firstKind .answer ⌝ }
+    ensures { λ r. ⌜ now (hashed .exit) ≡ mapOutcome larges (now (golden .entry)) (lent (now (memory .entry)) (now (ledger .entry))) block index target rights firstKind .hashed ⌝ }
+    ensures { λ r. ⌜ lent (now (memory .exit)) (now (ledger .exit)) ≡ mapOutcome larges (now (golden .entry)) (lent (now (memory .entry)) (now (ledger .entry))) block index target rights firstKind .after ⌝ }
 {
-    let request = Request {
+    pagemon_map_large_kind(
+        memory,
+        ledger,
+        golden,
         block,
         index,
         target,
         rights,
-    };
-    mapping::map::map(Form::Larges, memory, ledger, golden, request, hashed)
+        FIRST_KIND,
+        hashed,
+    )
 }
 
 // Link: an L2 table, at an index of an L1 table.

@@ -11,7 +11,7 @@ mod output; // output.rt: standard output and standard error
 
 const MEMORY_BYTES: usize = 65536;
 
-const LEDGER_BYTES: usize = 328;
+const LEDGER_BYTES: usize = 344;
 
 // The bytes of a batch of records, and of its lines with the one of a bad record.
 const INPUT_BYTES: usize = RECORD_BYTES * BATCH;

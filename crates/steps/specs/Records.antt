@@ -9,6 +9,8 @@ use Rattle.words.specs.Words.{word}
 use Rattle.entries.specs.Entries.{l1, l2}
 use Rattle.rules.specs.Store.{Store}
 use Rattle.rules.specs.Tables.{sections, pages, larges}
+use Rattle.rules.specs.Begin.{cachedKinds}
+use Rattle.rules.specs.Map.{firstKind}
 use Rattle.rules.specs.Guest.{reads, writes, fetches}
 use Rattle.rules.specs.Steps.{Step, begins, creates, frees, maps, links, unmaps, switches, accesses, Run, run}
 
@@ -16,13 +18,13 @@ use Rattle.rules.specs.Steps.{Step, begins, creates, frees, maps, links, unmaps
 abbrev pub calls : ℕ → ℕ → ℕ → ℕ → List (Option Step)
 calls a b c d =
     none
-    ∷ some (begins a)
+    ∷ some (begins cachedKinds a)
     ∷ some (creates l1 a)
     ∷ some (creates l2 a)
     ∷ some (frees l1 a)
     ∷ some (frees l2 a)
-    ∷ some (maps sections a b c d)
-    ∷ some (maps pages a b c d)
+    ∷ some (maps sections a b c d firstKind)
+    ∷ some (maps pages a b c d firstKind)
     ∷ some (links a b c d)
     ∷ some (unmaps sections a b)
     ∷ some (unmaps pages a b)
@@ -30,7 +32,7 @@ calls a b c d =
     ∷ some (accesses reads a)
     ∷ some (accesses (writes b) a)
     ∷ some (accesses fetches a)
-    ∷ some (maps larges a b c d)
+    ∷ some (maps larges a b c d firstKind)
     ∷ some (unmaps larges a b)
     ∷ []
 
