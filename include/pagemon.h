@@ -1,16 +1,17 @@
 /*
  * The paging monitor, as libmonitor.a exports it. docs/RULES.md states every rule in full, under the numbers that the calls answer.
  *
- * Buffers. The caller lends up to three byte buffers for the time of one call, each as a pointer and its length in bytes:
+ * Buffers. The caller lends two or three byte buffers for the time of one call, each as a pointer and its length in bytes:
  *
  *   memory   n blocks of PAGEMON_BLOCK_BYTES, n from PAGEMON_MIN_BLOCKS to PAGEMON_MAX_BLOCKS: the physical memory of the region.
- *   ledger   PAGEMON_LEDGER_BYTES(n) bytes, kept by the monitor: words of 32 bits, the lowest byte first. They are the region's first block
- *            number B, the first block of the active L1 table (PAGEMON_NO_TABLE for none), and for each block type, w, x, l, mark. w counts the
- *            table entries that let the guest write to the block, x those that let it execute from it, l the L1 entries that link to it. A
- *            block is marked if its mark is exactly PAGEMON_MARKED: create and map then take it for signed and do not hash it. They believe
- *            this of any ledger that they are lent.
+ *   ledger   PAGEMON_LEDGER_BYTES(n) bytes, kept by the monitor, the lowest byte first: the region's first block number B and the first block
+ *            of the active L1 table (PAGEMON_NO_TABLE for none), each a word of 32 bits; the eight memory kinds, two bytes each; and for each
+ *            block five words: type, w, x, l, mark. w counts the table entries that let the guest write to the block, x those that let it
+ *            execute from it, l the L1 entries that link to it. A block is marked if its mark is exactly PAGEMON_MARKED: create and map then
+ *            take it for signed and do not hash it. They believe this of any ledger that they are lent.
  *   golden   the golden image: SHA-256 digests of PAGEMON_DIGEST_BYTES, one behind the other in any order, none or up to
  *            PAGEMON_MAX_DIGESTS.
+ *   kinds    PAGEMON_KINDS_BYTES bytes, the eight memory kinds of a region, as the ledger has them: pagemon_kind below.
  *
  * No two buffers of a call share a byte, and nothing else writes them during the call. Any alignment will do. A pointer whose length is 0 is
  * not followed, and may be NULL; no other pointer is NULL. Any lengths and any contents are safe to lend: they are refused (PAGEMON_MISFIT)
@@ -49,8 +50,11 @@ extern "C" {
 #define PAGEMON_L1_BLOCKS 4u               /* blocks of an L1 table */
 #define PAGEMON_L1_ENTRIES 4096u           /* entries of an L1 table */
 #define PAGEMON_L2_ENTRIES 1024u           /* entries of an L2 block: four tables of 256 */
-#define PAGEMON_LEDGER_HEAD_BYTES 8u       /* bytes of the ledger before its first record: B, active */
+#define PAGEMON_LEDGER_HEAD_BYTES 24u      /* bytes of the ledger before its first record: B, active, the memory kinds */
 #define PAGEMON_LEDGER_RECORD_BYTES 20u    /* bytes of a block's record: type, w, x, l, mark */
+#define PAGEMON_KINDS 8u                   /* memory kinds of a region, numbered from 0 */
+#define PAGEMON_KINDS_AT 8u                /* the byte of the ledger at which they start */
+#define PAGEMON_KINDS_BYTES 16u            /* their bytes: two to a kind, the lower first */
 #define PAGEMON_DIGEST_BYTES 32u           /* bytes of a digest in the golden image */
 #define PAGEMON_MAX_DIGESTS 1024u          /* most digests of a golden image */
 #define PAGEMON_MAX_COUNT 4194304u         /* the limit of a counter, 2^22 */
@@ -59,6 +63,38 @@ extern "C" {
 
 /* The ledger's length for a memory of `blocks` blocks. */
 #define PAGEMON_LEDGER_BYTES(blocks) (PAGEMON_LEDGER_HEAD_BYTES + PAGEMON_LEDGER_RECORD_BYTES * (size_t)(blocks))
+
+/*
+ * A memory kind: what an entry tells the processor about caches and sharing. It has seven bits; one with any other bit is refused. Rights never
+ * depend on it. docs/INTEGRATION.md says which kind to use for what, and what upkeep it asks for.
+ */
+typedef uint16_t pagemon_kind;
+
+/* The kind with these bits: tex from 0 to 7, the others 0 or 1. Higher bits are cut off, so that TEX 8 becomes 0. Can be used in an initializer. */
+#define PAGEMON_KIND(tex, c, b, s, ng) \
+    ((pagemon_kind)(((b) & 1u) | ((c) & 1u) << 1 | ((tex) & 7u) << 2 | ((s) & 1u) << 5 | ((ng) & 1u) << 6))
+
+/*
+ * What ARMv7-A makes of TEX, C and B where SCTLR.TRE is 0. Of the other values, TEX 010 C 0 B 0 is device memory that is not shared, and TEX 1xx is
+ * normal memory with one policy for outer caches, in the low two bits of TEX, and one for inner caches, in C and B. TEX 001 C 1 B 0 depends on the
+ * processor. TEX 001 C 0 B 1, 010 C 0 B 1, 010 C 1 and 011 are reserved.
+ */
+#define PAGEMON_KIND_STRONGLY_ORDERED PAGEMON_KIND(0, 0, 0, 0, 0) /* strongly-ordered */
+#define PAGEMON_KIND_DEVICE PAGEMON_KIND(0, 0, 1, 0, 0)           /* device memory, shared */
+#define PAGEMON_KIND_WRITE_THROUGH PAGEMON_KIND(0, 1, 0, 0, 0)    /* normal memory, write-through */
+#define PAGEMON_KIND_WRITE_BACK PAGEMON_KIND(0, 1, 1, 0, 0)       /* normal memory, write-back: every kind after pagemon_begin */
+#define PAGEMON_KIND_UNCACHED PAGEMON_KIND(1, 0, 0, 0, 0)         /* normal memory, not cached, as for a frame buffer */
+#define PAGEMON_KIND_WRITE_ALLOCATE PAGEMON_KIND(1, 1, 1, 0, 0)   /* normal memory, write-back with write-allocate */
+
+/* Or-ed with a kind: shared between masters, and not global, so that the TLB keeps entries apart by address space. */
+#define PAGEMON_KIND_SHARED PAGEMON_KIND(0, 0, 0, 1, 0)
+#define PAGEMON_KIND_NOT_GLOBAL PAGEMON_KIND(0, 0, 0, 0, 1)
+
+/*
+ * The two bytes of a kind, for the initializer of the PAGEMON_KINDS_BYTES that pagemon_begin_kinds takes: there the kinds stand one after the other,
+ * in the order of their numbers. All eight are to be given: what an initializer leaves out is 0, PAGEMON_KIND_STRONGLY_ORDERED.
+ */
+#define PAGEMON_KIND_TO_BYTES(kind) (uint8_t)((kind) & 0xFFu), (uint8_t)((kind) >> 8)
 
 /* Rights of a mapping, added up. Maps take 0, READ, READ + WRITE and READ + EXECUTE. */
 enum {
@@ -77,11 +113,12 @@ enum {
 /* Answers. */
 enum {
     PAGEMON_ACCEPTED = 0,            /* accepted */
-    PAGEMON_MISFIT = 1,              /* the length of memory or ledger, or B, is not lawful; in create and map also the golden image's length */
+    PAGEMON_MISFIT = 1,              /* the length of memory or ledger, B, or a memory kind is not lawful; in create and map also the golden image's
+                                        length, in begin with kinds the number of their bytes */
     PAGEMON_OUTSIDE_REGION = 2,      /* the block, or one of an L1 table's four or of those to forget, lies outside the region */
     PAGEMON_MISALIGNED = 3,          /* an L1 table's block is no multiple of 4, a section's target none of 256, or a large page's index or target
                                         none of 16 */
-    PAGEMON_BEYOND_TABLE = 4,        /* the table has no such index; in link also a table above 3 */
+    PAGEMON_BEYOND_TABLE = 4,        /* the table has no such index; in link also a table above 3, in map a kind number above 7 */
     PAGEMON_WRONG_TYPE = 5,          /* the block, or one of an L1 table's four, has another type than the call needs */
     PAGEMON_IN_USE = 6,              /* create: a block has a counter above 0; free: the table is active (L1) or linked (L2) */
     PAGEMON_EXECUTABLE_HOLDER = 7,   /* the holder has x above 0 */
@@ -100,10 +137,19 @@ enum {
 };
 
 /*
- * Starts a region whose first block is `first_block`. Refusal: 1, with `first_block` in the place of the ledger's B.
- * Writes the ledger: B, no active table, and every type, counter and mark 0.
+ * Starts a region whose first block is `first_block`, with all eight memory kinds PAGEMON_KIND_WRITE_BACK. Refusal: 1, with `first_block` in the
+ * place of the ledger's B; the kinds that the ledger had are not looked at. Writes the ledger: B, the kinds, no active table, and every type,
+ * counter and mark 0.
  */
 uint32_t pagemon_begin(const uint8_t *memory, size_t memory_length, uint8_t *ledger, size_t ledger_length, uint32_t first_block);
+
+/*
+ * The same with the kinds that are lent, in the place of PAGEMON_KIND_WRITE_BACK. Refusal: 1. It is the answer also if `kinds_length` is not
+ * PAGEMON_KINDS_BYTES, or if one of the kinds has a bit above bit 6. `kinds` shares no byte with the ledger: to begin again with the kinds that a
+ * ledger has, copy the 16 bytes out of it first.
+ */
+uint32_t pagemon_begin_kinds(const uint8_t *memory, size_t memory_length, uint8_t *ledger, size_t ledger_length, const uint8_t *kinds,
+                             size_t kinds_length, uint32_t first_block);
 
 /*
  * Makes the four blocks from `block` an L1 table, or `block` an L2 block, with the entries that its bytes hold. Refusals: 1, 2, 3 (L1), 5, 6,
@@ -139,6 +185,18 @@ uint32_t pagemon_map_l2(uint8_t *memory, size_t memory_length, uint8_t *ledger, 
                         size_t golden_length, uint32_t block, uint32_t index, uint32_t target, uint32_t rights, uint32_t *hashed);
 
 /*
+ * The same with a memory kind of the region. `kind_number`, from 0 to 7, is the number under which begin was given the kind, not the kind itself:
+ * PAGEMON_KIND_UNCACHED here would be kind number 4, whatever kind that is. The calls above use number 0. Refusals: 1, 2, 3 (L1), 4, 5, 7, 8, 9, 10,
+ * 11, 12, 13. The kind's bits stand in the entry's word, and change nothing else.
+ */
+uint32_t pagemon_map_l1_kind(uint8_t *memory, size_t memory_length, uint8_t *ledger, size_t ledger_length, const uint8_t *golden,
+                             size_t golden_length, uint32_t block, uint32_t index, uint32_t target, uint32_t rights,
+                             uint32_t kind_number, uint32_t *hashed);
+uint32_t pagemon_map_l2_kind(uint8_t *memory, size_t memory_length, uint8_t *ledger, size_t ledger_length, const uint8_t *golden,
+                             size_t golden_length, uint32_t block, uint32_t index, uint32_t target, uint32_t rights,
+                             uint32_t kind_number, uint32_t *hashed);
+
+/*
  * Maps the large page of 16 blocks from `target` at the sixteen entries from `index` of the L2 block, all of which must be faults. Refusals: 1,
  * 2, 3, 4, 5, 7, 8, 9, 10, 11, 12, 13. One of the 16 blocks is enough for 10, 11 and 12. Writes the sixteen words in memory, and in the ledger
  * the counters of the 16 blocks, the mark 0 for the L2 block, and with execute the mark 1 for the 16 blocks. Sets `*hashed`, and asks for a
@@ -146,6 +204,11 @@ uint32_t pagemon_map_l2(uint8_t *memory, size_t memory_length, uint8_t *ledger, 
  */
 uint32_t pagemon_map_large(uint8_t *memory, size_t memory_length, uint8_t *ledger, size_t ledger_length, const uint8_t *golden,
                            size_t golden_length, uint32_t block, uint32_t index, uint32_t target, uint32_t rights, uint32_t *hashed);
+
+/* The same with a memory kind, as pagemon_map_l2_kind has it. Refusals: 1, 2, 3, 4, 5, 7, 8, 9, 10, 11, 12, 13. */
+uint32_t pagemon_map_large_kind(uint8_t *memory, size_t memory_length, uint8_t *ledger, size_t ledger_length, const uint8_t *golden,
+                                size_t golden_length, uint32_t block, uint32_t index, uint32_t target, uint32_t rights,
+                                uint32_t kind_number, uint32_t *hashed);
 
 /*
  * Links L2 table `table` (0 to 3) of the L2 block `target` at `index` of the L1 table, where a fault entry must stand. Refusals: 1, 2, 3, 4, 5,

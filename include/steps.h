@@ -4,7 +4,8 @@
  *
  * A record is PAGEMON_RECORD_BYTES bytes: the two bytes of the mark, a call byte (below), and four argument words, little-endian, in the order of the call's
  * parameters in pagemon.h. Words that the call does not use may hold anything. A record with another mark or another call byte, and a rest shorter than a
- * record, hold no step. pagemon_forget has no call byte, so no record is one.
+ * record, hold no step. pagemon_forget, pagemon_begin_kinds and the three maps with a memory kind have no call byte, so no record is one: a record's begin
+ * makes all kinds PAGEMON_KIND_WRITE_BACK, and a record's map uses kind number 0.
  *
  * libsteps.a has the calls' code in itself, and can be linked beside libmonitor.a.
  */

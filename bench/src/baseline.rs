@@ -3,7 +3,13 @@
 use crate::sha256::sha256;
 
 const BLOCK: usize = 4096;
-const LEDGER_HEAD: usize = 8;
+const LEDGER_HEAD: usize = 24;
+/// Where the ledger has its memory kinds.
+const KINDS_AT: usize = 8;
+const KINDS: u32 = 8;
+const KINDS_BYTES: usize = 16;
+/// B and C.
+const CACHED: u16 = 0b11;
 const RECORD: usize = 20;
 /// The scratch bytes of a block.
 pub const COUNT: usize = 16;
@@ -119,7 +125,9 @@ impl Region {
     #[inline(always)]
     fn stored(memory: &[u8], ledger: &[u8]) -> Judged<Region> {
         refuse_if(ledger.len() < LEDGER_HEAD, 1)?;
-        Region::starting(word(ledger, 0), memory, ledger)
+        let region = Region::starting(word(ledger, 0), memory, ledger)?;
+        judge_kinds(&ledger[KINDS_AT..LEDGER_HEAD])?;
+        Ok(region)
     }
 
     /// The first of m blocks, counted from the region's first, if they lie in the region.
@@ -135,6 +143,26 @@ impl Region {
         refuse_if(block % L1_BLOCKS != 0, 3)?;
         Ok(b)
     }
+}
+
+/// The kinds have no bit above bit 6.
+#[inline(always)]
+fn judge_kinds(kinds: &[u8]) -> Judged {
+    let words = kinds.as_chunks().0.iter().map(|word| u32::from_le_bytes(*word));
+    refuse_if(words.fold(0, |all, word| all | word) & 0xFF80_FF80 != 0, 1)
+}
+
+/// The kind under a number.
+#[inline(always)]
+fn stored_kind(ledger: &[u8], number: u32) -> u32 {
+    let at = KINDS_AT + 2 * number as usize;
+    u16::from_le_bytes([ledger[at], ledger[at + 1]]) as u32
+}
+
+/// Its bits in a word, TEX from bit `tex` on, S and nG from bit `s` on.
+#[inline(always)]
+fn kind_bits(kind: u32, tex: u32, s: u32) -> u32 {
+    (kind & 3) << 2 | (kind >> 2 & 7) << tex | (kind >> 5 & 3) << s
 }
 
 #[inline(always)]
@@ -235,15 +263,26 @@ fn large_entry(run: &[u8; RUN]) -> Entry {
     Entry::Mapping(word >> 16 << 4, LARGE_BLOCKS, (code - ACCEPTED) as u32)
 }
 
-#[inline(never)]
-pub fn begin(memory: &[u8], ledger: &mut [u8], first: u32) -> u32 {
-    if let Err(number) = Region::starting(first, memory, ledger) {
-        return number;
-    }
+#[inline(always)]
+fn judge_begin(memory: &[u8], ledger: &mut [u8], kinds: &[u8], first: u32) -> Judged {
+    Region::starting(first, memory, ledger)?;
+    refuse_if(kinds.len() != KINDS_BYTES, 1)?;
+    judge_kinds(kinds)?;
     ledger[LEDGER_HEAD..].fill(0);
+    ledger[KINDS_AT..LEDGER_HEAD].copy_from_slice(kinds);
     put_word(ledger, 0, first);
     put_word(ledger, 4, NO_TABLE);
-    0
+    Ok(())
+}
+
+#[inline(never)]
+pub fn begin_kinds(memory: &[u8], ledger: &mut [u8], kinds: &[u8], first: u32) -> u32 {
+    answer(judge_begin(memory, ledger, kinds, first))
+}
+
+#[inline(never)]
+pub fn begin(memory: &[u8], ledger: &mut [u8], first: u32) -> u32 {
+    answer(judge_begin(memory, ledger, [CACHED.to_le_bytes(); 8].as_flattened(), first))
 }
 
 /// A table's level: its blocks, its type, whether sixteen words may be one large page, and what a word means otherwise.
@@ -653,23 +692,23 @@ fn judge_l1_types(ledger: &[u8], b: usize) -> Judged {
     refuse_if(records(ledger)[b..b + L1_BLOCKS as usize].iter().any(|record| word(record, TYPE) != L1), 5)
 }
 
-/// The place in memory of an L1 entry: refusals 2, 3, 4, 5 and 7.
+/// The place in memory of an L1 entry, if the table or the kind that the call names exists: refusals 2, 3, 4, 5 and 7.
 #[inline(always)]
-fn l1_slot(region: Region, ledger: &[u8], block: u32, index: u32, aligned: bool, table: u32) -> Judged<usize> {
+fn l1_slot(region: Region, ledger: &[u8], block: u32, index: u32, aligned: bool, named: bool) -> Judged<usize> {
     let b = region.l1_place(block)?;
     refuse_if(!aligned, 3)?;
-    refuse_if(index > 4095 || table > 3, 4)?;
+    refuse_if(index > 4095 || !named, 4)?;
     judge_l1_types(ledger, b)?;
     refuse_if(word(&records(ledger)[b + index as usize / 1024], X) > 0, 7)?;
     Ok(BLOCK * b + 4 * index as usize)
 }
 
-/// The place in memory of an L2 entry: refusals 2, 3, 4, 5 and 7.
+/// The place in memory of an L2 entry, if the kind that the call names exists: refusals 2, 3, 4, 5 and 7.
 #[inline(always)]
-fn l2_slot(region: Region, ledger: &[u8], block: u32, index: u32, aligned: bool) -> Judged<usize> {
+fn l2_slot(region: Region, ledger: &[u8], block: u32, index: u32, aligned: bool, named: bool) -> Judged<usize> {
     let b = region.place(block, 1).ok_or(2u32)?;
     refuse_if(!aligned, 3)?;
-    refuse_if(index > 1023, 4)?;
+    refuse_if(index > 1023 || !named, 4)?;
     let holder = &records(ledger)[b];
     refuse_if(word(holder, TYPE) != L2, 5)?;
     refuse_if(word(holder, X) > 0, 7)?;
@@ -690,10 +729,11 @@ fn judge_request(memory: &[u8], at: usize, rights: u32) -> Judged {
 }
 
 /// By the rights 0, 1, 3 and 5.
-const SECTION_BITS: [u32; 8] = [0x41E, 0x81E, 0, 0xC1E, 0, 0x80E, 0, 0];
-const PAGE_BITS: [u32; 8] = [0x01F, 0x02F, 0, 0x03F, 0, 0x02E, 0, 0];
-const LARGE_BITS: [u32; 8] = [0x801D, 0x802D, 0, 0x803D, 0, 0x002D, 0, 0];
+const SECTION_BITS: [u32; 8] = [0x412, 0x812, 0, 0xC12, 0, 0x802, 0, 0];
+const PAGE_BITS: [u32; 8] = [0x013, 0x023, 0, 0x033, 0, 0x022, 0, 0];
+const LARGE_BITS: [u32; 8] = [0x8011, 0x8021, 0, 0x8031, 0, 0x0021, 0, 0];
 
+#[allow(clippy::too_many_arguments)]
 #[inline(always)]
 fn judge_map_l1(
     memory: &mut [u8],
@@ -703,17 +743,19 @@ fn judge_map_l1(
     index: u32,
     target: u32,
     rights: u32,
+    kind: u32,
 ) -> Judged<u32> {
     let region = Region::stored(memory, ledger)?;
     judge_image(golden)?;
-    let at = l1_slot(region, ledger, block, index, target % SECTION_BLOCKS == 0, 0)?;
+    let at = l1_slot(region, ledger, block, index, target % SECTION_BLOCKS == 0, kind < KINDS)?;
     judge_request(memory, at, rights)?;
     let hashed = map_blocks::<SECTION_BLOCKS>(memory, ledger, golden, region, block + index / 1024, target, rights)?;
-    put_word(memory, at, target << 12 | SECTION_BITS[rights as usize]);
+    put_word(memory, at, target << 12 | SECTION_BITS[rights as usize] | kind_bits(stored_kind(ledger, kind), 12, 16));
     unmark(ledger, at);
     Ok(hashed)
 }
 
+#[allow(clippy::too_many_arguments)]
 #[inline(always)]
 fn judge_map_large(
     memory: &mut [u8],
@@ -723,15 +765,17 @@ fn judge_map_large(
     index: u32,
     target: u32,
     rights: u32,
+    kind: u32,
 ) -> Judged<u32> {
     let region = Region::stored(memory, ledger)?;
     judge_image(golden)?;
-    let at = l2_slot(region, ledger, block, index, (index | target) % LARGE_BLOCKS == 0)?;
+    let at = l2_slot(region, ledger, block, index, (index | target) % LARGE_BLOCKS == 0, kind < KINDS)?;
     let low = memory[at..at + RUN].iter().step_by(4).fold(0, |low, byte| low | byte);
     refuse_if(low & 3 != 0, 8)?;
     judge_rights(rights)?;
     let hashed = map_blocks::<LARGE_BLOCKS>(memory, ledger, golden, region, block, target, rights)?;
-    let word = (target << 12 | LARGE_BITS[rights as usize]).to_le_bytes();
+    let word =
+        (target << 12 | LARGE_BITS[rights as usize] | kind_bits(stored_kind(ledger, kind), 12, 10)).to_le_bytes();
     memory[at..at + RUN].as_chunks_mut().0.fill(word);
     unmark(ledger, at);
     Ok(hashed)
@@ -792,6 +836,7 @@ fn change_blocks<const M: u32>(ledger: &mut [u8], t: usize, k: usize, change: u3
     }
 }
 
+#[allow(clippy::too_many_arguments)]
 #[inline(always)]
 fn judge_map_l2(
     memory: &mut [u8],
@@ -801,10 +846,11 @@ fn judge_map_l2(
     index: u32,
     target: u32,
     rights: u32,
+    kind: u32,
 ) -> Judged<u32> {
     let region = Region::stored(memory, ledger)?;
     judge_image(golden)?;
-    let at = l2_slot(region, ledger, block, index, true)?;
+    let at = l2_slot(region, ledger, block, index, true, kind < KINDS)?;
     judge_request(memory, at, rights)?;
     let t = region.place(target, 1).ok_or(10u32)?;
     let record = &mut records_mut(ledger)[t];
@@ -826,7 +872,7 @@ fn judge_map_l2(
         put_word(record, X, x + 1);
         put_word(record, MARK, MARKED);
     }
-    put_word(memory, at, target << 12 | PAGE_BITS[rights as usize]);
+    put_word(memory, at, target << 12 | PAGE_BITS[rights as usize] | kind_bits(stored_kind(ledger, kind), 6, 10));
     unmark(ledger, at);
     Ok(hashed)
 }
@@ -843,7 +889,23 @@ pub fn map_l1(
     rights: u32,
     hashed: &mut u32,
 ) -> u32 {
-    answer_and_hashed(judge_map_l1(memory, ledger, golden, block, index, target, rights), hashed)
+    answer_and_hashed(judge_map_l1(memory, ledger, golden, block, index, target, rights, 0), hashed)
+}
+
+#[allow(clippy::too_many_arguments)]
+#[inline(never)]
+pub fn map_l1_kind(
+    memory: &mut [u8],
+    ledger: &mut [u8],
+    golden: &[u8],
+    block: u32,
+    index: u32,
+    target: u32,
+    rights: u32,
+    kind: u32,
+    hashed: &mut u32,
+) -> u32 {
+    answer_and_hashed(judge_map_l1(memory, ledger, golden, block, index, target, rights, kind), hashed)
 }
 
 #[allow(clippy::too_many_arguments)]
@@ -858,7 +920,23 @@ pub fn map_l2(
     rights: u32,
     hashed: &mut u32,
 ) -> u32 {
-    answer_and_hashed(judge_map_l2(memory, ledger, golden, block, index, target, rights), hashed)
+    answer_and_hashed(judge_map_l2(memory, ledger, golden, block, index, target, rights, 0), hashed)
+}
+
+#[allow(clippy::too_many_arguments)]
+#[inline(never)]
+pub fn map_l2_kind(
+    memory: &mut [u8],
+    ledger: &mut [u8],
+    golden: &[u8],
+    block: u32,
+    index: u32,
+    target: u32,
+    rights: u32,
+    kind: u32,
+    hashed: &mut u32,
+) -> u32 {
+    answer_and_hashed(judge_map_l2(memory, ledger, golden, block, index, target, rights, kind), hashed)
 }
 
 #[allow(clippy::too_many_arguments)]
@@ -873,13 +951,29 @@ pub fn map_large(
     rights: u32,
     hashed: &mut u32,
 ) -> u32 {
-    answer_and_hashed(judge_map_large(memory, ledger, golden, block, index, target, rights), hashed)
+    answer_and_hashed(judge_map_large(memory, ledger, golden, block, index, target, rights, 0), hashed)
+}
+
+#[allow(clippy::too_many_arguments)]
+#[inline(never)]
+pub fn map_large_kind(
+    memory: &mut [u8],
+    ledger: &mut [u8],
+    golden: &[u8],
+    block: u32,
+    index: u32,
+    target: u32,
+    rights: u32,
+    kind: u32,
+    hashed: &mut u32,
+) -> u32 {
+    answer_and_hashed(judge_map_large(memory, ledger, golden, block, index, target, rights, kind), hashed)
 }
 
 #[inline(always)]
 fn judge_link(memory: &mut [u8], ledger: &mut [u8], block: u32, index: u32, target: u32, table: u32) -> Judged {
     let region = Region::stored(memory, ledger)?;
-    let at = l1_slot(region, ledger, block, index, true, table)?;
+    let at = l1_slot(region, ledger, block, index, true, table < 4)?;
     refuse_if(word(memory, at) & 3 != 0, 8)?;
     let t = region.place(target, 1).ok_or(10u32)?;
     let record = &mut records_mut(ledger)[t];
@@ -900,7 +994,7 @@ pub fn link(memory: &mut [u8], ledger: &mut [u8], block: u32, index: u32, target
 #[inline(always)]
 fn judge_unmap_l1(memory: &mut [u8], ledger: &mut [u8], block: u32, index: u32) -> Judged {
     let region = Region::stored(memory, ledger)?;
-    let at = l1_slot(region, ledger, block, index, true, 0)?;
+    let at = l1_slot(region, ledger, block, index, true, true)?;
     match l1_entry(word(memory, at)) {
         Entry::Fault => {}
         Entry::Unaccepted => return Err(8),
@@ -921,7 +1015,7 @@ fn judge_unmap_l1(memory: &mut [u8], ledger: &mut [u8], block: u32, index: u32) 
 #[inline(always)]
 fn judge_unmap_large(memory: &mut [u8], ledger: &mut [u8], block: u32, index: u32) -> Judged {
     let region = Region::stored(memory, ledger)?;
-    let at = l2_slot(region, ledger, block, index, index % LARGE_BLOCKS == 0)?;
+    let at = l2_slot(region, ledger, block, index, index % LARGE_BLOCKS == 0, true)?;
     let run = memory[at..].first_chunk_mut::<RUN>().ok_or(8u32)?;
     refuse_if(run[0] & 3 != 1, 8)?;
     let Entry::Mapping(first, _, rights) = large_entry(run) else { return Err(8) };
@@ -951,7 +1045,7 @@ fn unmap_blocks<const M: u32>(ledger: &mut [u8], region: Region, first: u32, rig
 #[inline(always)]
 fn judge_unmap_l2(memory: &mut [u8], ledger: &mut [u8], block: u32, index: u32) -> Judged {
     let region = Region::stored(memory, ledger)?;
-    let at = l2_slot(region, ledger, block, index, true)?;
+    let at = l2_slot(region, ledger, block, index, true, true)?;
     match l2_entry(word(memory, at)) {
         Entry::Mapping(first, _, rights) => {
             let t = region.place(first, 1).ok_or(10u32)?;

@@ -4,17 +4,17 @@ use crate::program::{Buffers, Given, Monitor, Plain, Program};
 use crate::sha256::sha256;
 use crate::workloads::Batch;
 use calls::random::Random;
-use calls::{ledger_bytes, Kind, BLOCK, LEDGER_HEAD, LEDGER_RECORD, MARKED};
+use calls::{ledger_bytes, Kind, BLOCK, KINDS_AT, KINDS_BYTES, LEDGER_HEAD, LEDGER_RECORD, MARKED, NUMBERS};
 use std::collections::BTreeSet;
 
-fn given<P: Program>(kind: Kind, words: &[[u32; 4]], lent: &mut Buffers) -> Vec<Given> {
+fn given<P: Program>(kind: Kind, words: &[[u32; NUMBERS]], lent: &mut Buffers) -> Vec<Given> {
     let mut all = Vec::new();
     P::batch(kind, words, lent, |given| all.push(given));
     all
 }
 
 /// Makes the calls with both programs on equal buffers, and gives what both gave.
-fn both(kind: Kind, words: &[[u32; 4]], lent: &mut Buffers) -> Vec<Given> {
+fn both(kind: Kind, words: &[[u32; NUMBERS]], lent: &mut Buffers) -> Vec<Given> {
     let mut other = lent.clone();
     let ours = given::<Monitor>(kind, words, lent);
     let plain = given::<Plain>(kind, words, &mut other);
@@ -52,12 +52,13 @@ impl Drawn {
             memory: vec![0; BLOCK * blocks],
             ledger: vec![0; ledger_bytes(blocks)],
             golden: [sha256(&[0; BLOCK]), [7; 32]].concat(),
+            kinds: vec![0; KINDS_BYTES],
             scratch: vec![0; COUNT * blocks],
         };
         let mut random = Random::new(seed);
         let first = 256 * random.below(4) as u32;
         let mut drawn = Drawn { random, lent, first, blocks };
-        both(Kind::Begin, &[[first, 0, 0, 0]], &mut drawn.lent);
+        both(Kind::Begin, &[[first, 0, 0, 0, 0]], &mut drawn.lent);
         drawn
     }
 
@@ -142,10 +143,27 @@ impl Drawn {
         self.lent.ledger[at..at + 4].copy_from_slice(&mark.to_le_bytes());
     }
 
+    /// Eight kinds, now and then one of them not lawful.
+    fn draw_kinds(&mut self) {
+        let odd = self.random.below(8 * 8);
+        for i in 0..8 {
+            let kind = self.random.next() as u16 & 0x7F;
+            let kind = if i == odd { self.random.one_of(&[0x80, 0x100, 0x8000]) } else { kind };
+            self.lent.kinds[2 * i..2 * i + 2].copy_from_slice(&kind.to_le_bytes());
+        }
+    }
+
+    /// A stored kind, seldom one that is not lawful.
+    fn poke_kind(&mut self) {
+        let kind = self.random.one_of(&[0, 1, 2, 3, 4, 7, 0x1C, 0x20, 0x23, 0x40, 0x47, 0x7F, 0x7F, 0x80, 0x100]);
+        let at = KINDS_AT + 2 * self.random.below(8);
+        self.lent.ledger[at..at + 2].copy_from_slice(&u16::to_le_bytes(kind));
+    }
+
     /// A word of a record, or now and then the first block or the active table.
     fn poke_ledger(&mut self) {
         let words = LEDGER_RECORD / 4;
-        let near = 2 + self.random.below(words * self.blocks.min(16));
+        let near = LEDGER_HEAD / 4 + self.random.below(words * self.blocks.min(16));
         let last = self.lent.ledger.len() / 4 - 1 - self.random.below(words);
         let at = match self.random.below(20) {
             0 => self.random.below(2),
@@ -158,21 +176,24 @@ impl Drawn {
         self.lent.ledger[4 * at..4 * at + 4].copy_from_slice(&word.to_le_bytes());
     }
 
-    fn words(&mut self, kind: Kind) -> [u32; 4] {
+    fn words(&mut self, kind: Kind) -> [u32; NUMBERS] {
         let rights = self.random.one_of(&[0, 1, 3, 3, 3, 5, 5, 7, 2, 8]);
         let (l1_index, l2_index) = (self.random.one_of(&L1_INDICES), self.random.one_of(&L2_INDICES));
         let beyond = u32::from(self.random.below(20) == 0);
         let run = self.random.one_of(&RUNS) + u32::from(self.random.below(20) == 0);
-        match kind {
-            Kind::Begin => [self.random.one_of(&[0, 256, 512, 768, 1, 0xFFF00, 0xFFFFFF00]), 0, 0, 0],
+        let number = self.random.one_of(&[0, 0, 1, 2, 3, 4, 5, 6, 7, 7, 8, u32::MAX]);
+        let [a, b, c, d] = match kind {
+            Kind::Begin | Kind::BeginKinds => {
+                [self.random.one_of(&[0, 256, 512, 768, 1, 0xFFF00, 0xFFFFFF00]), 0, 0, 0]
+            }
             Kind::CreateL1 | Kind::FreeL1 | Kind::Switch => [self.l1_table(), 0, 0, 0],
             Kind::CreateL2 | Kind::FreeL2 => [self.l2_block(), 0, 0, 0],
-            Kind::MapL1 => [self.l1_table(), l1_index + 4096 * beyond, self.section(), rights],
-            Kind::MapL2 => [self.l2_block(), l2_index + 1024 * beyond, self.block(), rights],
+            Kind::MapL1 | Kind::MapL1Kind => [self.l1_table(), l1_index + 4096 * beyond, self.section(), rights],
+            Kind::MapL2 | Kind::MapL2Kind => [self.l2_block(), l2_index + 1024 * beyond, self.block(), rights],
             Kind::Link => [self.l1_table(), l1_index, self.l2_block(), self.random.below(4) as u32 + 4 * beyond],
             Kind::UnmapL1 => [self.l1_table(), l1_index + 4096 * beyond, 0, 0],
             Kind::UnmapL2 => [self.l2_block(), l2_index + 1024 * beyond, 0, 0],
-            Kind::MapLarge => [self.l2_block(), run + 16 * beyond, self.sixteen(), rights],
+            Kind::MapLarge | Kind::MapLargeKind => [self.l2_block(), run + 16 * beyond, self.sixteen(), rights],
             Kind::UnmapLarge => [self.l2_block(), run + 16 * beyond, 0, 0],
             Kind::Read | Kind::Write | Kind::Fetch => {
                 let address = l1_index << 20 | (l2_index % 256) << 12 | self.random.below(4096) as u32;
@@ -184,7 +205,8 @@ impl Drawn {
                 let block = self.block();
                 [self.random.one_of(&[self.first, block]), count, 0, 0]
             }
-        }
+        };
+        [a, b, c, d, number]
     }
 
     /// One call, at times with a buffer of another length.
@@ -192,16 +214,17 @@ impl Drawn {
         let words = [self.words(kind)];
         if self.random.below(50) > 0 {
             let answer = both(kind, &words, &mut self.lent)[0].answer;
-            if kind == Kind::Begin && answer == 0 {
+            if matches!(kind, Kind::Begin | Kind::BeginKinds) && answer == 0 {
                 self.first = words[0][0];
             }
             return answer;
         }
         let mut lent = self.lent.clone();
-        match self.random.below(4) {
+        match self.random.below(5) {
             0 => lent.memory.truncate(BLOCK * self.random.below(9) + self.random.below(2)),
             1 => lent.ledger.push(0),
-            2 => lent.ledger.truncate(self.random.below(9)),
+            2 => lent.ledger.truncate(self.random.below(LEDGER_HEAD + 1)),
+            3 => lent.kinds.push(0),
             _ => lent.golden.push(0),
         }
         both(kind, &words, &mut lent)[0].answer
@@ -212,6 +235,8 @@ impl Drawn {
 pub fn check_random(calls: usize) -> usize {
     let sizes = [8, 12, 24, 40, 260, 512, 512];
     let lists = 8;
+    let begins = [Kind::Begin, Kind::BeginKinds];
+    let others: Vec<Kind> = Kind::ALL.into_iter().filter(|kind| !begins.contains(kind)).collect();
     let mut pairs = BTreeSet::new();
     for (seed, blocks) in sizes.into_iter().enumerate() {
         for list in 0..lists {
@@ -226,8 +251,15 @@ pub fn check_random(calls: usize) -> usize {
                 if list % 4 >= 2 && drawn.random.below(4) == 0 {
                     drawn.poke_mark();
                 }
-                let kind =
-                    if drawn.random.below(100) == 0 { Kind::Begin } else { drawn.random.one_of(&Kind::ALL[1..]) };
+                if drawn.random.below(100) == 0 {
+                    drawn.poke_kind();
+                }
+                let kind = match drawn.random.below(100) {
+                    0 => Kind::Begin,
+                    1 => Kind::BeginKinds,
+                    _ => drawn.random.one_of(&others),
+                };
+                drawn.draw_kinds();
                 pairs.insert((kind, drawn.call(kind)));
             }
         }

@@ -1,4 +1,4 @@
-//! The two programs behind one interface: a call is a kind, up to four words, and the lent buffers.
+//! The two programs behind one interface: a call is a kind, up to five words, and the lent buffers.
 use crate::baseline;
 use calls::{Kind, PerBuffer, NUMBERS};
 use library::monitor::{repeat, Outputs};
@@ -9,6 +9,7 @@ pub struct Buffers {
     pub memory: Vec<u8>,
     pub ledger: Vec<u8>,
     pub golden: Vec<u8>,
+    pub kinds: Vec<u8>,
     pub scratch: Vec<u8>,
 }
 
@@ -34,8 +35,8 @@ pub struct Plain;
 impl Program for Monitor {
     #[inline(always)]
     fn batch(kind: Kind, words: &[[u32; NUMBERS]], lent: &mut Buffers, mut note: impl FnMut(Given)) {
-        let Buffers { memory, ledger, golden, .. } = lent;
-        let lent = PerBuffer { memory, ledger, golden }.map(|buffer| buffer.as_mut_slice().into());
+        let Buffers { memory, ledger, golden, kinds, .. } = lent;
+        let lent = PerBuffer { memory, ledger, golden, kinds }.map(|buffer| buffer.as_mut_slice().into());
         let (mut byte, mut hashed) = (0, 0);
         let outputs = Outputs { byte: &raw mut byte, hashed: &raw mut hashed };
         let note = |answer| {
@@ -69,28 +70,39 @@ macro_rules! batches {
 impl Program for Plain {
     #[inline(always)]
     fn batch(kind: Kind, words: &[[u32; NUMBERS]], lent: &mut Buffers, mut note: impl FnMut(Given)) {
-        let Buffers { memory, ledger, golden, scratch } = lent;
-        let (memory, ledger, golden, scratch) = (&mut memory[..], &mut ledger[..], &golden[..], &mut scratch[..]);
+        let Buffers { memory, ledger, golden, kinds, scratch } = lent;
+        let (memory, ledger, scratch) = (&mut memory[..], &mut ledger[..], &mut scratch[..]);
+        let (golden, kinds) = (&golden[..], &kinds[..]);
         batches!(words, note, kind, {
             Begin(&[a, ..], _) => baseline::begin(memory, ledger, a),
             CreateL1(&[a, ..], Given { hashed, .. }) => baseline::create_l1(memory, ledger, golden, scratch, a, hashed),
             CreateL2(&[a, ..], Given { hashed, .. }) => baseline::create_l2(memory, ledger, golden, scratch, a, hashed),
             FreeL1(&[a, ..], _) => baseline::free_l1(memory, ledger, scratch, a),
             FreeL2(&[a, ..], _) => baseline::free_l2(memory, ledger, scratch, a),
-            MapL1(&[a, b, c, d], Given { hashed, .. }) => baseline::map_l1(memory, ledger, golden, a, b, c, d, hashed),
-            MapL2(&[a, b, c, d], Given { hashed, .. }) => baseline::map_l2(memory, ledger, golden, a, b, c, d, hashed),
-            Link(&[a, b, c, d], _) => baseline::link(memory, ledger, a, b, c, d),
+            MapL1(&[a, b, c, d, _], Given { hashed, .. }) => baseline::map_l1(memory, ledger, golden, a, b, c, d, hashed),
+            MapL2(&[a, b, c, d, _], Given { hashed, .. }) => baseline::map_l2(memory, ledger, golden, a, b, c, d, hashed),
+            Link(&[a, b, c, d, _], _) => baseline::link(memory, ledger, a, b, c, d),
             UnmapL1(&[a, b, ..], _) => baseline::unmap_l1(memory, ledger, a, b),
             UnmapL2(&[a, b, ..], _) => baseline::unmap_l2(memory, ledger, a, b),
             Switch(&[a, ..], _) => baseline::switch(memory, ledger, a),
             Read(&[a, ..], Given { byte, .. }) => baseline::read(memory, ledger, a, byte),
             Write(&[a, b, ..], _) => baseline::write(memory, ledger, a, b),
             Fetch(&[a, ..], Given { byte, .. }) => baseline::fetch(memory, ledger, a, byte),
-            MapLarge(&[a, b, c, d], Given { hashed, .. }) => {
+            MapLarge(&[a, b, c, d, _], Given { hashed, .. }) => {
                 baseline::map_large(memory, ledger, golden, a, b, c, d, hashed)
             },
             UnmapLarge(&[a, b, ..], _) => baseline::unmap_large(memory, ledger, a, b),
             Forget(&[a, b, ..], _) => baseline::forget(memory, ledger, a, b),
+            BeginKinds(&[a, ..], _) => baseline::begin_kinds(memory, ledger, kinds, a),
+            MapL1Kind(&[a, b, c, d, e], Given { hashed, .. }) => {
+                baseline::map_l1_kind(memory, ledger, golden, a, b, c, d, e, hashed)
+            },
+            MapL2Kind(&[a, b, c, d, e], Given { hashed, .. }) => {
+                baseline::map_l2_kind(memory, ledger, golden, a, b, c, d, e, hashed)
+            },
+            MapLargeKind(&[a, b, c, d, e], Given { hashed, .. }) => {
+                baseline::map_large_kind(memory, ledger, golden, a, b, c, d, e, hashed)
+            },
         })
     }
 }

@@ -3,7 +3,7 @@ use crate::baseline::COUNT;
 use crate::program::{Buffers, Given, Plain, Program};
 use crate::sha256::sha256;
 use calls::random::Random;
-use calls::{ledger_bytes, Kind, BLOCK};
+use calls::{ledger_bytes, Kind, BLOCK, KINDS_BYTES, NUMBERS};
 use Kind::*;
 
 /// The region's first block.
@@ -30,7 +30,7 @@ const TARGETS: u32 = 64;
 
 pub struct Batch {
     pub kind: Kind,
-    pub words: Vec<[u32; 4]>,
+    pub words: Vec<[u32; NUMBERS]>,
     /// The answer of each of its calls.
     pub answer: u32,
     /// How many blocks all of them hash.
@@ -63,6 +63,7 @@ impl Scene {
             memory: vec![0; BLOCK * blocks],
             ledger: vec![0; ledger_bytes(blocks)],
             golden: Vec::new(),
+            kinds: (0..KINDS_BYTES as u8).map(|i| if i % 2 == 0 { 9 * i } else { 0 }).collect(),
             scratch: vec![0; COUNT * blocks],
         };
         let mut scene = Scene { lent, blocks };
@@ -70,9 +71,9 @@ impl Scene {
         scene
     }
 
-    fn accepted(&mut self, kind: Kind, words: &[[u32; 4]]) {
+    fn accepted<const N: usize>(&mut self, kind: Kind, words: &[[u32; N]]) {
         let note = |given: Given| assert!(given.answer == 0, "{kind:?} answers {}", given.answer);
-        Plain::batch(kind, words, &mut self.lent, note);
+        Plain::batch(kind, &padded(words), &mut self.lent, note);
     }
 
     fn put_entry(&mut self, block: u32, index: u32, word: u32) {
@@ -216,14 +217,19 @@ fn section(first: u32, rights: u32) -> u32 {
     first << 12 | access
 }
 
+/// Words with zeros behind them.
+fn padded<const N: usize>(words: &[[u32; N]]) -> Vec<[u32; NUMBERS]> {
+    words.iter().map(|words| std::array::from_fn(|i| words.get(i).copied().unwrap_or(0))).collect()
+}
+
 /// A batch of accepted calls that hash nothing.
-fn accepted(kind: Kind, words: Vec<[u32; 4]>) -> Batch {
-    Batch { kind, words, answer: 0, hashed: 0 }
+fn accepted<const N: usize>(kind: Kind, words: Vec<[u32; N]>) -> Batch {
+    Batch { kind, words: padded(&words), answer: 0, hashed: 0 }
 }
 
 /// A batch of calls that are refused with this number.
-fn refused(kind: Kind, words: Vec<[u32; 4]>, answer: u32) -> Batch {
-    Batch { kind, words, answer, hashed: 0 }
+fn refused<const N: usize>(kind: Kind, words: Vec<[u32; N]>, answer: u32) -> Batch {
+    Batch { kind, words: padded(&words), answer, hashed: 0 }
 }
 
 /// The addresses of a guest's accesses.
@@ -252,8 +258,9 @@ const fn workload(name: &'static str, least: usize, make: fn(&mut Scene) -> Batc
 }
 
 /// Calls that hash nothing.
-pub static CALLS: [Workload; 48] = [
+pub static CALLS: [Workload; 50] = [
     workload("begin", 64, |_| accepted(Begin, vec![[FIRST, 0, 0, 0]; 64])),
+    workload("begin with kinds", 64, |_| accepted(BeginKinds, vec![[FIRST]; 64])),
     workload("create L1, empty", 64, |_| accepted(CreateL1, vec![[L1_TABLE, 0, 0, 0]])),
     workload("create L1, 16 sections, 64 links", 512, |scene| {
         scene.written_sections_and_links();
@@ -333,6 +340,14 @@ pub static CALLS: [Workload; 48] = [
     workload("map L2, writable page", 64, |scene| {
         scene.tables();
         accepted(MapL2, page_maps(scene))
+    }),
+    workload("map L2, writable page, each kind in turn", 64, |scene| {
+        scene.tables();
+        let maps = page_maps(scene).into_iter().zip(0..);
+        accepted(
+            MapL2Kind,
+            maps.map(|([block, index, target, rights], i)| [block, index, target, rights, i % 8]).collect(),
+        )
     }),
     workload("map L2, read-only page", 64, |scene| {
         scene.tables();

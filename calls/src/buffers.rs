@@ -1,8 +1,11 @@
 //! The buffers that calls are lent.
 
 pub const BLOCK: usize = 4096;
-pub const LEDGER_HEAD: usize = 8;
+pub const LEDGER_HEAD: usize = 24;
 pub const LEDGER_RECORD: usize = 20;
+/// Where the ledger has its memory kinds, and their bytes: two for each of eight.
+pub const KINDS_AT: usize = 8;
+pub const KINDS_BYTES: usize = 16;
 /// The active word when no table is in use.
 pub const NO_TABLE: u32 = 0xFFFF_FFFF;
 /// The mark of a block that need not be hashed.
@@ -27,21 +30,27 @@ pub struct PerBuffer<T> {
     pub memory: T,
     pub ledger: T,
     pub golden: T,
+    pub kinds: T,
 }
 
 impl<T: Copy> PerBuffer<T> {
     pub fn all(value: T) -> PerBuffer<T> {
-        PerBuffer { memory: value, ledger: value, golden: value }
+        PerBuffer { memory: value, ledger: value, golden: value, kinds: value }
     }
 }
 
 impl<T> PerBuffer<T> {
     pub fn map<U>(self, mut f: impl FnMut(T) -> U) -> PerBuffer<U> {
-        PerBuffer { memory: f(self.memory), ledger: f(self.ledger), golden: f(self.golden) }
+        PerBuffer { memory: f(self.memory), ledger: f(self.ledger), golden: f(self.golden), kinds: f(self.kinds) }
     }
 
     pub fn as_mut(&mut self) -> PerBuffer<&mut T> {
-        PerBuffer { memory: &mut self.memory, ledger: &mut self.ledger, golden: &mut self.golden }
+        PerBuffer {
+            memory: &mut self.memory,
+            ledger: &mut self.ledger,
+            golden: &mut self.golden,
+            kinds: &mut self.kinds,
+        }
     }
 
     pub fn zip<U>(self, other: PerBuffer<U>) -> PerBuffer<(T, U)> {
@@ -49,6 +58,7 @@ impl<T> PerBuffer<T> {
             memory: (self.memory, other.memory),
             ledger: (self.ledger, other.ledger),
             golden: (self.golden, other.golden),
+            kinds: (self.kinds, other.kinds),
         }
     }
 }

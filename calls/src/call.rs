@@ -1,14 +1,15 @@
 //! A call with its numbers, and the readable line that stands for it.
 use crate::kind::Kind;
+use crate::record::RECORD_WORDS;
 use std::fmt;
 
-/// The most numbers that a call takes, and the words of a record.
-pub const NUMBERS: usize = 4;
+/// The most numbers that a call takes.
+pub const NUMBERS: usize = 5;
 
 #[derive(Clone, Copy, PartialEq, Eq, Debug)]
 pub struct Call {
     pub kind: Kind,
-    /// The numbers that the call takes, then spare words, which it does not use.
+    /// The numbers that the call takes, then words that it does not use.
     pub arguments: [u32; NUMBERS],
 }
 
@@ -25,8 +26,9 @@ impl Call {
         &self.arguments[..self.kind.arity()]
     }
 
+    /// The words of its record that it does not use.
     pub fn spare_words(&self) -> &[u32] {
-        &self.arguments[self.kind.arity()..]
+        self.arguments[..RECORD_WORDS].get(self.kind.arity()..).unwrap_or(&[])
     }
 }
 

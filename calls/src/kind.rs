@@ -169,8 +169,10 @@ mod tests {
     }
 
     #[test]
-    fn forget_has_no_call_byte() {
-        assert_eq!(Kind::Forget.byte(), None);
+    fn later_calls_have_no_call_byte() {
+        for kind in [Kind::Forget, Kind::BeginKinds, Kind::MapL1Kind, Kind::MapL2Kind, Kind::MapLargeKind] {
+            assert_eq!(kind.byte(), None);
+        }
         assert_eq!(Kind::recorded().collect::<Vec<Kind>>(), Kind::ALL[..16]);
     }
 
@@ -182,10 +184,12 @@ mod tests {
         assert!(!Kind::Write.gives_byte());
         assert!(Kind::MapL2.gives_hashed());
         assert!(!Kind::Read.gives_hashed());
-        let access = PerBuffer { memory: Access::Writes, ledger: Access::Writes, golden: Access::NotLent };
-        assert_eq!(Kind::Write.access(), access);
-        let access = PerBuffer { memory: Access::Reads, ledger: Access::Reads, golden: Access::NotLent };
-        assert_eq!(Kind::Read.access(), access);
+        let lent = |memory, ledger, golden, kinds| PerBuffer { memory, ledger, golden, kinds };
+        let (none, reads, writes) = (Access::NotLent, Access::Reads, Access::Writes);
+        assert_eq!(Kind::Write.access(), lent(writes, writes, none, none));
+        assert_eq!(Kind::Read.access(), lent(reads, reads, none, none));
+        assert_eq!(Kind::BeginKinds.access(), lent(reads, writes, none, reads));
+        assert_eq!(Kind::MapL2Kind.access(), lent(writes, writes, reads, none));
         assert_eq!(Kind::Switch.refusals(), [1, 2, 3, 5]);
         assert_eq!(Kind::Switch.words(5), Some("a block is not of type L1"));
         assert_eq!(Kind::Switch.words(4), None);

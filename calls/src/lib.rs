@@ -10,7 +10,9 @@ mod record;
 pub mod refusals;
 mod table;
 
-pub use buffers::{ledger_bytes, Access, PerBuffer, BLOCK, LEDGER_HEAD, LEDGER_RECORD, MARKED, NO_TABLE};
+pub use buffers::{
+    ledger_bytes, Access, PerBuffer, BLOCK, KINDS_AT, KINDS_BYTES, LEDGER_HEAD, LEDGER_RECORD, MARKED, NO_TABLE,
+};
 pub use call::{Call, NUMBERS};
 pub use kind::Kind;
-pub use record::{records, MARK, RECORD_BYTES};
+pub use record::{records, MARK, RECORD_BYTES, RECORD_WORDS};

@@ -1,10 +1,11 @@
 //! The records of `pagemon` and of the runner (program 2 of docs/RULES.md).
-use crate::call::{Call, NUMBERS};
+use crate::call::Call;
 use crate::kind::Kind;
 
 pub const MARK: [u8; 2] = [0x50, 0x54];
+pub const RECORD_WORDS: usize = 4;
 /// The mark, the call byte and the words.
-pub const RECORD_BYTES: usize = 3 + 4 * NUMBERS;
+pub const RECORD_BYTES: usize = 3 + 4 * RECORD_WORDS;
 
 impl Call {
     /// The record of a call that records can say.
@@ -56,7 +57,7 @@ mod tests {
     fn records_lead_back() {
         let mut random = Random::new(1);
         for kind in Kind::recorded() {
-            let call = Call { kind, arguments: [(); NUMBERS].map(|()| random.next() as u32) };
+            let call = Call::new(kind, &[(); RECORD_WORDS].map(|()| random.next() as u32));
             assert_eq!(Call::of_record(&call.record()), Ok(call));
         }
     }

@@ -10,9 +10,10 @@ const fn refusal(number: u32, words: &'static str) -> Refusal {
 }
 
 pub const MISFIT_NEW: Refusal = refusal(1, "a length or B breaks the rules");
-pub const MISFIT: Refusal = refusal(1, "a length or the stored B breaks the rules");
+pub const MISFIT_NEW_KINDS: Refusal = refusal(1, "a length, B or a kind breaks the rules");
+pub const MISFIT: Refusal = refusal(1, "a length, the stored B or a stored kind breaks the rules");
 pub const MISFIT_OR_IMAGE: Refusal =
-    refusal(1, "a length or the stored B breaks the rules, or the golden image's length");
+    refusal(1, "a length, the stored B or a stored kind breaks the rules, or the golden image's length");
 
 pub const TABLE_OUTSIDE: Refusal = refusal(2, "a block of the table is outside the region");
 pub const BLOCK_OUTSIDE: Refusal = refusal(2, "the block is outside the region");
@@ -24,6 +25,7 @@ pub const MISALIGNED_LARGE: Refusal = refusal(3, "the index or the target is not
 pub const MISALIGNED_INDEX: Refusal = refusal(3, "the index is not a multiple of 16");
 
 pub const BEYOND_TABLE: Refusal = refusal(4, "the index is too large");
+pub const BEYOND_KINDS: Refusal = refusal(4, "the index or the number of the kind is too large");
 pub const BEYOND_TABLES: Refusal = refusal(4, "the index or the table is too large");
 
 pub const NOT_DATA: Refusal = refusal(5, "a block is not data");

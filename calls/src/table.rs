@@ -46,6 +46,17 @@ macro_rules! table {
                 refuses MISFIT, BLOCK_OUTSIDE, MISALIGNED_INDEX, BEYOND_TABLE, NOT_L2, EXECUTABLE_HOLDER, NO_LARGE_PAGE, ASTRAY_ENTRY, OVERRUN;
             Forget = -: pagemon_forget(const memory, mut ledger; block, count)
                 refuses MISFIT, BLOCKS_OUTSIDE;
+            BeginKinds = -: pagemon_begin_kinds(const memory, mut ledger, const kinds; first_block)
+                refuses MISFIT_NEW_KINDS;
+            MapL1Kind = -: pagemon_map_l1_kind(mut memory, mut ledger, const golden; block, index, target, rights, kind_number; hashed: u32)
+                refuses MISFIT_OR_IMAGE, TABLE_OUTSIDE, MISALIGNED_SECTION, BEYOND_KINDS, NOT_L1, EXECUTABLE_HOLDER, NO_FAULT, UNLAWFUL_RIGHTS,
+                    UNFIT_TARGET, CLASH, UNSIGNED, OVERRUN;
+            MapL2Kind = -: pagemon_map_l2_kind(mut memory, mut ledger, const golden; block, index, target, rights, kind_number; hashed: u32)
+                refuses MISFIT_OR_IMAGE, BLOCK_OUTSIDE, BEYOND_KINDS, NOT_L2, EXECUTABLE_HOLDER, NO_FAULT, UNLAWFUL_RIGHTS,
+                    UNFIT_TARGET, CLASH, UNSIGNED, OVERRUN;
+            MapLargeKind = -: pagemon_map_large_kind(mut memory, mut ledger, const golden; block, index, target, rights, kind_number; hashed: u32)
+                refuses MISFIT_OR_IMAGE, BLOCK_OUTSIDE, MISALIGNED_LARGE, BEYOND_KINDS, NOT_L2, EXECUTABLE_HOLDER, NOT_ALL_FAULTS, UNLAWFUL_RIGHTS,
+                    UNFIT_TARGET, CLASH, UNSIGNED, OVERRUN;
         }
     };
 }

@@ -1,5 +1,5 @@
 //! The table of the calls beside the headers in include/: what Rust code links must be declared as C code sees it.
-use calls::{Kind, BLOCK, LEDGER_HEAD, LEDGER_RECORD, MARK, MARKED, NO_TABLE, RECORD_BYTES};
+use calls::{Kind, BLOCK, KINDS_AT, KINDS_BYTES, LEDGER_HEAD, LEDGER_RECORD, MARK, MARKED, NO_TABLE, RECORD_BYTES};
 use std::fs;
 
 fn header(name: &str) -> String {
@@ -35,7 +35,7 @@ fn refusals(comment: &str, kind: Kind) -> Vec<u32> {
     let list = comment.split_once("Refusal").and_then(|(_, rest)| rest.split_once(": ")).unwrap().1;
     let list = list.split_once('.').unwrap().0.replace(" (L1)", "(L1)");
     let words = list.split(|separator: char| separator == ',' || separator.is_whitespace());
-    let of_l1 = kind.name().ends_with("_l1");
+    let of_l1 = kind.name().contains("_l1");
     words.filter_map(|word| word.strip_suffix("(L1)").filter(|_| of_l1).unwrap_or(word).parse().ok()).collect()
 }
 
@@ -83,6 +83,8 @@ fn sizes() {
     let header = header("pagemon.h");
     assert_eq!(value(&header, "PAGEMON_BLOCK_BYTES"), BLOCK as u32);
     assert_eq!(value(&header, "PAGEMON_LEDGER_HEAD_BYTES"), LEDGER_HEAD as u32);
+    assert_eq!(value(&header, "PAGEMON_KINDS_AT"), KINDS_AT as u32);
+    assert_eq!(value(&header, "PAGEMON_KINDS_BYTES"), KINDS_BYTES as u32);
     assert_eq!(value(&header, "PAGEMON_LEDGER_RECORD_BYTES"), LEDGER_RECORD as u32);
     assert_eq!(value(&header, "PAGEMON_NO_TABLE"), NO_TABLE);
     assert_eq!(value(&header, "PAGEMON_MARKED"), MARKED);

@@ -8,8 +8,20 @@ use std::ops::Range;
 use std::path::Path;
 
 /// The lists, in the order in which their faults are numbered.
-const LISTS: [&str; 11] =
-    ["groups", "region", "refusals", "guest", "entries", "mapping", "signature", "leaves", "tables", "large", "marks"];
+const LISTS: [&str; 12] = [
+    "groups",
+    "region",
+    "refusals",
+    "guest",
+    "entries",
+    "mapping",
+    "signature",
+    "leaves",
+    "tables",
+    "large",
+    "marks",
+    "kinds",
+];
 
 type Result<T = ()> = std::result::Result<T, String>;
 

@@ -52,7 +52,7 @@ static void touched(int signal)
 
 struct step {
     uint8_t call;
-    uint32_t arguments[4];
+    uint32_t arguments[5];
     uint32_t answer;
     uint8_t byte;
     uint32_t hashed;
@@ -197,19 +197,25 @@ struct lent {
     size_t ledger_length;
     const uint8_t *golden;
     size_t golden_length;
+    const uint8_t *kinds;
+    size_t kinds_length;
 };
+
+/* Eight kinds that all differ, for begin. */
+static const uint8_t new_kinds[PAGEMON_KINDS_BYTES] = {0x12, 0, 0x00, 0, 0x7F, 0, 0x03, 0, 0x68, 0, 0x25, 0, 0x4C, 0, 0x01, 0};
 
 typedef uint32_t obey(const struct lent *lent, const struct step *step, uint8_t *byte);
 
 #define REGION lent->memory, lent->memory_length, lent->ledger, lent->ledger_length
 #define IMAGE lent->golden, lent->golden_length
+#define KINDS lent->kinds, lent->kinds_length
 
 /* Where create and map store the number of blocks hashed, and what stands there before. */
 static uint32_t plain_hashed, *hashed = &plain_hashed;
 static const uint32_t OLD_NUMBER = 0xA7A7A7A7;
 
-/* In the place of a call byte, which forget has not. */
-enum { FORGET = 0 };
+/* In the place of a call byte, which these have not. */
+enum { FORGET = 0, BEGIN_KINDS = 0x80, MAP_L1_KIND, MAP_L2_KIND, MAP_LARGE_KIND };
 
 static uint32_t by_call(const struct lent *lent, const struct step *step, uint8_t *byte)
 {
@@ -217,6 +223,10 @@ static uint32_t by_call(const struct lent *lent, const struct step *step, uint8_
     *hashed = OLD_NUMBER;
     switch (step->call) {
     case FORGET: return pagemon_forget(REGION, a[0], a[1]);
+    case BEGIN_KINDS: return pagemon_begin_kinds(REGION, KINDS, a[0]);
+    case MAP_L1_KIND: return pagemon_map_l1_kind(REGION, IMAGE, a[0], a[1], a[2], a[3], a[4], hashed);
+    case MAP_L2_KIND: return pagemon_map_l2_kind(REGION, IMAGE, a[0], a[1], a[2], a[3], a[4], hashed);
+    case MAP_LARGE_KIND: return pagemon_map_large_kind(REGION, IMAGE, a[0], a[1], a[2], a[3], a[4], hashed);
     case PAGEMON_CALL_BEGIN: return pagemon_begin(REGION, a[0]);
     case PAGEMON_CALL_CREATE_L1: return pagemon_create_l1(REGION, IMAGE, a[0], hashed);
     case PAGEMON_CALL_CREATE_L2: return pagemon_create_l2(REGION, IMAGE, a[0], hashed);
@@ -253,7 +263,7 @@ static bool gives_byte(uint8_t call)
 static bool takes_image(uint8_t call)
 {
     return call == PAGEMON_CALL_CREATE_L1 || call == PAGEMON_CALL_CREATE_L2 || call == PAGEMON_CALL_MAP_L1 || call == PAGEMON_CALL_MAP_L2
-           || call == PAGEMON_CALL_MAP_LARGE;
+           || call == PAGEMON_CALL_MAP_LARGE || call == MAP_L1_KIND || call == MAP_L2_KIND || call == MAP_LARGE_KIND;
 }
 
 /* A create or map sets the number, also when it is refused; no other call does. */
@@ -265,7 +275,7 @@ static void expect_hashed(const struct step *step, uint32_t answer, const char *
 
 static void script_by_calls(const struct buffers *b)
 {
-    const struct lent lent = {b->at[MEMORY], MEMORY_BYTES, b->at[LEDGER], LEDGER_BYTES, b->at[GOLDEN], GOLDEN_BYTES};
+    const struct lent lent = {b->at[MEMORY], MEMORY_BYTES, b->at[LEDGER], LEDGER_BYTES, b->at[GOLDEN], GOLDEN_BYTES, NULL, 0};
     for (size_t i = 0; i < STEPS; i++) {
         uint32_t answer = by_call(&lent, &script[i], b->at[BYTES] + i);
         expect_hashed(&script[i], answer, "the script");
@@ -517,19 +527,32 @@ static const struct step each_call[] = {
     {PAGEMON_CALL_UNMAP_LARGE, {PAGES, 32}, 0, 0, 0},
 };
 
-static const struct step forget = {FORGET, {FIRST, BLOCKS}, 0, 0, 0};
+/* The same of calls that records cannot say. */
+static const struct step unrecorded[] = {
+    {FORGET, {FIRST, BLOCKS}, 0, 0, 0},
+    {BEGIN_KINDS, {FIRST}, 0, 0, 0},
+    {MAP_L1_KIND, {TABLE, 4, FIRST, EXECUTES, 1}, 0, 0, 255},
+    {MAP_L2_KIND, {PAGES, 9, DATA, EXECUTES, 3}, 0, 0, 1},
+    {MAP_LARGE_KIND, {PAGES, 16, FIRST, EXECUTES, 7}, 0, 0, 15},
+};
 
-enum { SETUP = sizeof setup / sizeof setup[0], CALLS = sizeof each_call / sizeof each_call[0] };
+static const struct step *const begin_kinds = &unrecorded[1];
+
+enum {
+    SETUP = sizeof setup / sizeof setup[0],
+    CALLS = sizeof each_call / sizeof each_call[0],
+    UNRECORDED = sizeof unrecorded / sizeof unrecorded[0]
+};
 
 /* What the setup leaves, and buffers with the same bytes for one call. */
 static uint8_t left_memory[MEMORY_BYTES], left_ledger[LEDGER_BYTES], golden[GOLDEN_BYTES];
 static uint8_t memory[MEMORY_BYTES], ledger[LEDGER_BYTES], lent_golden[GOLDEN_BYTES];
-static const struct lent right = {memory, MEMORY_BYTES, ledger, LEDGER_BYTES, lent_golden, GOLDEN_BYTES};
+static const struct lent right = {memory, MEMORY_BYTES, ledger, LEDGER_BYTES, lent_golden, GOLDEN_BYTES, new_kinds, PAGEMON_KINDS_BYTES};
 
 static void set_up(void)
 {
     uint8_t byte = 0;
-    const struct lent lent = {left_memory, MEMORY_BYTES, left_ledger, LEDGER_BYTES, golden, GOLDEN_BYTES};
+    const struct lent lent = {left_memory, MEMORY_BYTES, left_ledger, LEDGER_BYTES, golden, GOLDEN_BYTES, NULL, 0};
     put_memory(left_memory);
     put_golden(golden);
     for (size_t i = 0; i < SETUP; i++) {
@@ -571,7 +594,9 @@ static void every_call(const struct lent *lent, uint32_t with_image, uint32_t ot
         one_call(by_call, lent, &each_call[i], answer, where);
         one_call(by_run, lent, &each_call[i], answer, where);
     }
-    one_call(by_call, lent, &forget, others, where);
+    for (size_t i = 0; i < UNRECORDED; i++) {
+        one_call(by_call, lent, &unrecorded[i], takes_image(unrecorded[i].call) ? with_image : others, where);
+    }
 }
 
 /* More than 2^33 bytes that must not be touched. */
@@ -586,7 +611,7 @@ static uint8_t *long_room(size_t size)
     return start;
 }
 
-/* Every call but begin reads the ledger's B before it compares lengths: of this one the first page can be read, and is as in the right one. */
+/* Every call but begin may read the ledger's head before it compares lengths: of this one the first page can be read, and is as in the right one. */
 static uint8_t *long_ledger(void)
 {
     uint8_t *start = long_room(forbidden_bytes);
@@ -611,8 +636,52 @@ static void long_buffers(void)
         every_call(&lent, PAGEMON_MISFIT, PAGEMON_MISFIT, "a ledger of 4 GiB and more");
         lent.ledger = forbidden;
         one_call(by_call, &lent, &each_call[0], PAGEMON_MISFIT, "begin with a ledger of 4 GiB and more");
+        one_call(by_call, &lent, begin_kinds, PAGEMON_MISFIT, "begin with kinds and a ledger of 4 GiB and more");
         lent = right, lent.golden = forbidden, lent.golden_length = sizes[i];
         every_call(&lent, PAGEMON_MISFIT, PAGEMON_ACCEPTED, "an image of 4 GiB and more");
+        lent = right, lent.kinds = forbidden, lent.kinds_length = sizes[i];
+        one_call(by_call, &lent, begin_kinds, PAGEMON_MISFIT, "kinds of 4 GiB and more");
+    }
+    lent = right, lent.kinds = forbidden, lent.kinds_length = FOUR_GIB + PAGEMON_KINDS_BYTES;
+    one_call(by_call, &lent, begin_kinds, PAGEMON_MISFIT, "kinds of 4 GiB and 16 bytes");
+}
+
+/* Begin with kinds at this place of a room: it stores them, leaves the room as it was, and takes no fewer bytes of it. */
+static void kinds_in_a_room(uint8_t *kinds, const char *where, size_t number)
+{
+    struct lent lent = right;
+    memset(rooms[GOLDEN].start, CANARY, rooms[GOLDEN].size);
+    memcpy(kinds, new_kinds, sizeof new_kinds);
+    lent.kinds = kinds;
+    one_call(by_call, &lent, begin_kinds, PAGEMON_ACCEPTED, where);
+    expect(memcmp(ledger + PAGEMON_KINDS_AT, new_kinds, sizeof new_kinds) == 0, "other kinds in the ledger", where, number);
+    expect(memcmp(kinds, new_kinds, sizeof new_kinds) == 0, "other kinds in their buffer", where, number);
+    expect_canaries(rooms[GOLDEN].start, kinds, where, number);
+    expect_canaries(kinds + sizeof new_kinds, rooms[GOLDEN].start + rooms[GOLDEN].size, where, number);
+    for (size_t length = 0; length < sizeof new_kinds; length++) {
+        lent.kinds_length = length;
+        one_call(by_call, &lent, begin_kinds, PAGEMON_MISFIT, where);
+    }
+}
+
+/* Begin with kinds that start or end a page, or stand at an odd address. */
+static void kinds_in_rooms(void)
+{
+    for (size_t offset = 0; offset < 8; offset++) {
+        kinds_in_a_room(rooms[GOLDEN].start + offset, "kinds at the offset", offset);
+    }
+    kinds_in_a_room(end_of_room(GOLDEN, sizeof new_kinds), "kinds that end a page", 0);
+}
+
+/* Ledgers that end within their head or soon after it, where a page ends. */
+static void short_ledgers(void)
+{
+    struct lent lent = right;
+    for (size_t length = 0; length <= PAGEMON_LEDGER_HEAD_BYTES + 4; length++) {
+        lent.ledger = end_of_room(LEDGER, length), lent.ledger_length = length;
+        memcpy(lent.ledger, left_ledger, length);
+        every_call(&lent, PAGEMON_MISFIT, PAGEMON_MISFIT, "a ledger of a few bytes");
+        expect(memcmp(lent.ledger, left_ledger, length) == 0, "a ledger was changed that has the length", "a ledger of a few bytes", length);
     }
 }
 
@@ -653,8 +722,10 @@ static void empty_buffers(uint8_t *nowhere, const char *where)
     every_call(&lent, PAGEMON_MISFIT, PAGEMON_MISFIT, where);
     lent = right, lent.ledger = nowhere, lent.ledger_length = 0;
     every_call(&lent, PAGEMON_MISFIT, PAGEMON_MISFIT, where);
-    lent = (struct lent){nowhere, 0, nowhere, 0, nowhere, 0};
+    lent = (struct lent){nowhere, 0, nowhere, 0, nowhere, 0, nowhere, 0};
     every_call(&lent, PAGEMON_MISFIT, PAGEMON_MISFIT, where);
+    lent = right, lent.kinds = nowhere, lent.kinds_length = 0;
+    one_call(by_call, &lent, begin_kinds, PAGEMON_MISFIT, where);
 }
 
 /* Lists without records, or without a place for an answer or for a byte. */
@@ -703,6 +774,8 @@ int main(void)
     set_up();
     forbidden = untouchable(forbidden_bytes);
     long_buffers();
+    kinds_in_rooms();
+    short_ledgers();
     long_lists();
     long_image();
     empty(NULL, "an empty buffer at NULL");

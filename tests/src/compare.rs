@@ -1,7 +1,7 @@
 //! Candidate and reference side by side: the answer, the byte and the number given, and every byte of memory and ledger.
 use crate::cases::Case;
 use crate::faults::{Fault, Seeded};
-use crate::monitor::{Call, Given, Kind, Monitor, Store, BLOCK};
+use crate::monitor::{naming_memory_kind, Call, Given, Kind, Monitor, Store, BLOCK};
 use crate::outcome::Outcomes;
 use crate::reference::Reference;
 use std::collections::{BTreeMap, BTreeSet};
@@ -43,11 +43,14 @@ pub struct Comparer<'a> {
     /// Faults that no case has shown yet.
     pub unfound: Vec<Fault>,
     pub tallies: BTreeMap<Kind, Tally>,
+    /// Every call that names no kinds, or no kind, is made as the one that does, with each number in turn.
+    naming_memory_kinds: bool,
 }
 
 impl<'a> Comparer<'a> {
     pub fn new(candidate: &'a dyn Monitor, reference: &'a dyn Monitor) -> Self {
-        Comparer { candidate, reference, reasons: None, unfound: Vec::new(), tallies: BTreeMap::new() }
+        let (unfound, tallies) = (Vec::new(), BTreeMap::new());
+        Comparer { candidate, reference, reasons: None, unfound, tallies, naming_memory_kinds: false }
     }
 
     /// Looks for these faults. The reference is the copy into which they are seeded, without a fault.
@@ -58,6 +61,21 @@ impl<'a> Comparer<'a> {
     /// Notes pairs of refusals too.
     pub fn with_pairs(candidate: &'a dyn Monitor, reference: &'a Reference) -> Self {
         Comparer { reasons: Some(reference), ..Comparer::new(candidate, reference) }
+    }
+
+    /// Runs cases of calls that name no kinds, or no kind, with those that do.
+    pub fn naming_memory_kinds(&mut self, cases: impl FnOnce(&mut Self) -> Outcome) -> Outcome {
+        self.naming_memory_kinds = true;
+        let outcome = cases(self);
+        self.naming_memory_kinds = false;
+        outcome
+    }
+
+    fn named(&self, call: Call) -> Call {
+        let Some(kind) = naming_memory_kind(call.kind).filter(|_| self.naming_memory_kinds) else { return call };
+        let number = self.tallies.get(&kind).map_or(0, |tally| tally.cases % 8);
+        let [block, index, target, rights, _] = call.arguments;
+        Call { kind, arguments: [block, index, target, rights, number as u32] }
     }
 
     /// Runs one case on both and compares; the case's own expectation is held against the candidate.
@@ -76,6 +94,7 @@ impl<'a> Comparer<'a> {
 
     /// Runs a call on both and compares. The store is then what the candidate left.
     pub fn step(&mut self, name: &str, call: Call, store: &mut Store) -> Outcome<Given> {
+        let call = self.named(call);
         let reasons = self.reasons.map_or(Vec::new(), |reference| reference.reasons(call, store));
         let before = (!self.unfound.is_empty()).then(|| store.clone());
         let mut other = store.clone();

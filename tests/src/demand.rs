@@ -1,7 +1,7 @@
-//! Lists 7 to 12 and 14, held against every step of a list by what is told alone (lists 4 to 6). The ledger is looked at only to compare its w, x and l,
-//! and for its marks. Nothing is shared with the reference but SHA-256.
+//! Lists 7 to 12, 14 and 15, held against every step of a list by what is told alone (lists 4 to 6). The ledger is looked at only to compare its w, x
+//! and l and its kinds, and for its marks. Nothing is shared with the reference but SHA-256.
 use crate::hasher::digest;
-use crate::monitor::{Call, Given, Kind, Store, BLOCK};
+use crate::monitor::{Call, Given, Kind, Store, BLOCK, KINDS_AT, LEDGER_HEAD, LEDGER_RECORD};
 use std::collections::BTreeSet;
 use std::fmt;
 
@@ -66,7 +66,7 @@ fn word(bytes: &[u8], index: usize) -> u32 {
 
 /// The five words of a block's record.
 fn record(ledger: &[u8], position: usize) -> &[u8] {
-    &ledger[8 + 20 * position..28 + 20 * position]
+    &ledger[LEDGER_HEAD..][LEDGER_RECORD * position..][..LEDGER_RECORD]
 }
 
 /// A clause of lists that a step breaks, and how.
@@ -88,17 +88,22 @@ pub struct Told {
     pub tables: Vec<u8>,
     /// The table of the last accepted switch.
     pub switched: Option<usize>,
+    /// The bytes of the memory kinds.
+    kinds: Vec<u8>,
 }
 
+/// The kinds of a begin that names none.
+const WRITE_BACK: [u8; 16] = [3, 0, 3, 0, 3, 0, 3, 0, 3, 0, 3, 0, 3, 0, 3, 0];
+
 impl Told {
-    /// After an accepted begin with this B.
+    /// After an accepted begin with this B, which names no kinds.
     pub fn new(first: u32, blocks: usize) -> Told {
         let first = first as usize;
-        Told { first, tables: vec![0; blocks], switched: None }
+        Told { first, tables: vec![0; blocks], switched: None, kinds: WRITE_BACK.to_vec() }
     }
 
-    /// Notes what a step tells, if it was accepted.
-    pub fn note(&mut self, call: Call, given: Given) {
+    /// Notes what a step tells, if it was accepted. It was lent these kinds, if it takes any.
+    pub fn note(&mut self, call: Call, given: Given, kinds: &[u8]) {
         if given.answer != 0 {
             return;
         }
@@ -110,10 +115,11 @@ impl Told {
             }
         };
         match call.kind {
-            Kind::Begin => {
+            Kind::Begin | Kind::BeginKinds => {
                 self.first = at;
                 self.tables.fill(0);
                 self.switched = None;
+                self.kinds = if call.kind == Kind::Begin { WRITE_BACK.to_vec() } else { kinds.to_vec() };
             }
             Kind::CreateL1 => set(4, 1),
             Kind::CreateL2 => set(1, 2),
@@ -130,9 +136,9 @@ impl Told {
         let (is_l1, indices) = match call.kind {
             Kind::CreateL1 => (true, 0..4096),
             Kind::CreateL2 => (false, 0..1024),
-            Kind::MapL1 => (true, index..index + 1),
-            Kind::MapL2 => (false, index..index + 1),
-            Kind::MapLarge => (false, index..index + 16),
+            Kind::MapL1 | Kind::MapL1Kind => (true, index..index + 1),
+            Kind::MapL2 | Kind::MapL2Kind => (false, index..index + 1),
+            Kind::MapLarge | Kind::MapLargeKind => (false, index..index + 16),
             _ => return BTreeSet::new(),
         };
         let table = &memory[BLOCK * (block - self.first)..];
@@ -140,7 +146,7 @@ impl Told {
         indices.filter_map(gives).filter(|gives| gives.write).map(|gives| (gives.first, gives.count)).collect()
     }
 
-    /// Holds a step against lists 7 to 12 and 14. `before` is the memory that the step was lent.
+    /// Holds a step against lists 7 to 12, 14 and 15. `before` is the memory that the step was lent.
     pub fn step(&mut self, call: Call, given: Given, before: &[u8], store: &Store) -> Vec<Breach> {
         let mut held = vec![(12, answer_allowed(given))];
         if matches!(call.kind, Kind::Read | Kind::Write | Kind::Fetch) {
@@ -149,12 +155,13 @@ impl Told {
         if call.kind == Kind::Fetch && given.answer == 0 {
             held.push((11, self.fetched(call.arguments[0] as usize, given.byte, store)));
         }
-        self.note(call, given);
+        self.note(call, given, &store.kinds);
         let counts = self.counts(&store.memory);
         held.push((9, self.ledger_agrees(&counts, &store.ledger)));
         held.push((7, self.never_both(&counts)));
         held.push((8, self.executable_is_signed(&counts, store)));
         held.push((14, self.marked_is_signed(store)));
+        held.push((15, self.kinds_are_kept(&store.ledger)));
         held.into_iter().filter_map(|(clause, outcome)| outcome.err().map(|what| Breach { clause, what })).collect()
     }
 
@@ -214,6 +221,13 @@ impl Told {
         let marked = (0..self.tables.len()).filter(|&position| word(record(&store.ledger, position), 4) == 1);
         let unsigned = marked.into_iter().find(|&position| !self.signed(position, store));
         unsigned.map_or(Ok(()), |position| Err(format!("block {position} is marked and not signed")))
+    }
+
+    fn kinds_are_kept(&self, ledger: &[u8]) -> Result<(), String> {
+        match &ledger[KINDS_AT..LEDGER_HEAD] {
+            kept if kept == self.kinds => Ok(()),
+            kept => Err(format!("the kinds are {kept:02x?}, and begin had {:02x?}", self.kinds)),
+        }
     }
 
     fn signed(&self, position: usize, store: &Store) -> bool {

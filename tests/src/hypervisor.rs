@@ -38,8 +38,8 @@ fn processor_writes(call: Call, store: &mut Store) -> Given {
     Outcome { ledger: Vec::new(), ..written }.apply(store)
 }
 
-/// Takes a step on the box, and the forgets that are due then. A write is the processor's, and `perform` makes all other calls. Gives what lists 7 to 12
-/// and 14 say against these steps.
+/// Takes a step on the box, and the forgets that are due then. A write is the processor's, and `perform` makes all other calls. Gives what lists 7 to 12,
+/// 14 and 15 say against these steps.
 pub fn take<E>(
     duty: Duty,
     call: Call,
@@ -63,7 +63,7 @@ pub fn take<E>(
     Ok((all[0], breaches))
 }
 
-/// Compares every call of the lists on a box where the duty is done, and holds lists 7 to 12 and 14 against every step.
+/// Compares every call of the lists on a box where the duty is done, and holds lists 7 to 12, 14 and 15 against every step.
 pub fn run(comparer: &mut Comparer) -> compare::Outcome {
     for (seed, blocks, steps) in lists() {
         let duty = [Duty::Blocks, Duty::Region][seed as usize % 2];
@@ -81,7 +81,7 @@ pub fn run(comparer: &mut Comparer) -> compare::Outcome {
     Ok(())
 }
 
-/// For each list on the box, the clauses of lists 7 to 12 and 14 that the monitor breaks.
+/// For each list on the box, the clauses of lists 7 to 12, 14 and 15 that the monitor breaks.
 pub fn broken_by(monitor: &dyn Monitor, duty: Duty) -> impl Iterator<Item = BTreeSet<u32>> + '_ {
     lists().map(move |(seed, blocks, steps)| {
         let mut lister = Lister::new(seed, blocks);

@@ -34,7 +34,8 @@ impl Library {
     /// Makes a call on copies of what it is lent, with outputs that hold `old`.
     fn once(&self, call: Call, store: &mut Store, old: u8) -> Given {
         let access = call.kind.access();
-        let contents = PerBuffer { memory: &store.memory[..], ledger: &store.ledger, golden: &store.golden };
+        let contents =
+            PerBuffer { memory: &store.memory[..], ledger: &store.ledger, golden: &store.golden, kinds: &store.kinds };
         let mut copies = access.zip(contents).map(|(access, content)| match access {
             Access::NotLent => self.guard(&[]),
             Access::Reads | Access::Writes => self.guard(content),
@@ -53,6 +54,9 @@ impl Library {
         }
         if let Some(left) = left(access.golden, &copies.golden, &store.golden) {
             store.golden.copy_from_slice(left);
+        }
+        if let Some(left) = left(access.kinds, &copies.kinds, &store.kinds) {
+            store.kinds.copy_from_slice(left);
         }
         let (byte, hashed) = (byte.guarded_content()[0], hashed.guarded_content()[0]);
         Given {

@@ -1,25 +1,48 @@
-//! Lists of steps, drawn with an eye on what the steps before them left, with lists 7 to 12 and 14 held against every step.
+//! Lists of steps, drawn with an eye on what the steps before them left, with lists 7 to 12, 14 and 15 held against every step.
 use crate::bytes::word;
 use crate::cases::scene::*;
 use crate::compare::{difference, Comparer, Outcome};
 use crate::demand::Told;
 use crate::hasher::digest;
-use crate::monitor::{Call, Given, Kind, Monitor, BLOCK, MARKED};
+use crate::monitor::{
+    naming_memory_kind, plain_call, Call, Given, Kind, Monitor, BLOCK, KINDS_AT, KINDS_BYTES, MARKED, NUMBERS,
+};
 use crate::random::Random;
+use calls::RECORD_WORDS;
 use std::collections::{BTreeSet, VecDeque};
+use std::ops::Range;
 use Kind::*;
 
-/// Seed, blocks and steps of each list: many short ones in small regions, some in regions with room for large pages, a few with room for sections.
-pub fn lists() -> impl Iterator<Item = (u64, usize, usize)> {
-    let small = (0..80).map(|seed| (seed, 8 + Random::new(seed).below(20), 400));
-    let larger = (100..150).map(|seed| (seed, [48, 64, 67, 80][seed as usize % 4], 400));
-    small.chain(larger).chain((200..216).map(|seed| (seed, [260, 512, 520][seed as usize % 3], 150)))
+/// Seed, blocks and steps of a list.
+pub type List = (u64, usize, usize);
+
+/// From this seed on, begins and maps of a list name kinds in half of the cases.
+const FIRST_WITH_KINDS: u64 = 300;
+
+pub fn lists() -> impl Iterator<Item = List> {
+    lists_without_kinds().chain(lists_with_kinds())
+}
+
+/// Many short ones in small regions, some in regions with room for large pages, a few with room for sections.
+pub fn lists_without_kinds() -> impl Iterator<Item = List> {
+    some_lists(0..80, 100..150, 200..216)
+}
+
+/// The same, and fewer.
+pub fn lists_with_kinds() -> impl Iterator<Item = List> {
+    some_lists(FIRST_WITH_KINDS..350, 400..430, 500..512)
+}
+
+fn some_lists(small: Range<u64>, larger: Range<u64>, largest: Range<u64>) -> impl Iterator<Item = List> {
+    let small = small.map(|seed| (seed, 8 + Random::new(seed).below(20), 400));
+    let larger = larger.map(|seed| (seed, [48, 64, 67, 80][seed as usize % 4], 400));
+    small.chain(larger).chain(largest.map(|seed| (seed, [260, 512, 520][seed as usize % 3], 150)))
 }
 
 /// The pages of an L2 table that accesses go to: some at its start, and some of the three runs there.
 const PAGES: [u32; 13] = [0, 1, 2, 3, 4, 5, 16, 17, 24, 31, 32, 40, 47];
 
-/// Compares every step, and holds lists 7 to 12 and 14 against it.
+/// Compares every step, and holds lists 7 to 12, 14 and 15 against it.
 pub fn run(comparer: &mut Comparer) -> Outcome {
     for (seed, blocks, steps) in lists() {
         let mut lister = Lister::new(seed, blocks);
@@ -36,9 +59,12 @@ pub fn run(comparer: &mut Comparer) -> Outcome {
     Ok(())
 }
 
-/// For each list, the clauses of lists 7 to 12 and 14 that the monitor breaks. It is compared with nothing.
-pub fn broken_by(monitor: &dyn Monitor) -> impl Iterator<Item = BTreeSet<u32>> + '_ {
-    lists().map(|(seed, blocks, steps)| {
+/// For each of these lists, the clauses of lists 7 to 12, 14 and 15 that the monitor breaks. It is compared with nothing.
+pub fn broken_by<'a>(
+    monitor: &'a dyn Monitor,
+    lists: impl Iterator<Item = List> + 'a,
+) -> impl Iterator<Item = BTreeSet<u32>> + 'a {
+    lists.map(|(seed, blocks, steps)| {
         let mut lister = Lister::new(seed, blocks);
         let mut broken = BTreeSet::new();
         for _ in 0..=steps {
@@ -57,6 +83,8 @@ pub struct Lister {
     pub scene: Scene,
     pub told: Told,
     random: Random,
+    /// What memory kinds are drawn from, if begins and maps are to name any.
+    memory_kinds: Option<Random>,
     /// Steps that are already decided.
     plan: VecDeque<Call>,
 }
@@ -68,7 +96,11 @@ impl Lister {
         let mut random = Random::new(1000 + seed);
         let first = 256 * random.below(5) as u32;
         let mut scene = Scene::new(first, blocks);
-        scene.store.ledger = random.bytes(scene.store.ledger.len());
+        scene.store.ledger = random.bytes(scene.store.ledger.len() - KINDS_BYTES);
+        // Drawn apart, so that the older lists stay the same.
+        let mut memory_kinds = Random::new(2000 + seed);
+        scene.store.ledger.splice(KINDS_AT..KINDS_AT, memory_kinds.bytes(KINDS_BYTES));
+        scene.store.kinds = kind_bytes(&random_kinds(&mut memory_kinds));
         scene.set_marks(random.below(blocks)..blocks, MARKED);
         for group in (0..blocks.min(40)).step_by(4) {
             put_group(&mut scene, group, &mut random);
@@ -81,13 +113,14 @@ impl Lister {
         if seed % 15 == 7 {
             scene.store.golden.push(1);
         }
-        Lister::over(scene, random)
+        let memory_kinds = (seed >= FIRST_WITH_KINDS).then_some(memory_kinds);
+        Lister { memory_kinds, ..Lister::over(scene, random) }
     }
 
-    /// Over a store that begin accepts.
+    /// Over a store that begin accepts, without kinds.
     pub fn over(scene: Scene, random: Random) -> Lister {
         let plan = VecDeque::from([Call::new(Begin, &[scene.first])]);
-        Lister { told: Told::new(scene.first, scene.blocks()), scene, random, plan }
+        Lister { told: Told::new(scene.first, scene.blocks()), scene, random, memory_kinds: None, plan }
     }
 
     /// The next steps of the list that records can say, as a monitor obeys them.
@@ -96,7 +129,7 @@ impl Lister {
         for _ in 0..steps {
             let call = self.next_recorded();
             let given = monitor.perform(call, &mut self.scene.store);
-            self.told.note(call, given);
+            self.told.note(call, given, &self.scene.store.kinds);
             obeyed.push((call, given));
         }
         obeyed
@@ -113,6 +146,42 @@ impl Lister {
 
     #[allow(clippy::should_implement_trait)]
     pub fn next(&mut self) -> Call {
+        let call = self.drawn();
+        self.named(call)
+    }
+
+    /// The same begin or map with kinds or with the number of one, seldom above 7, if it is to name any.
+    fn named(&mut self, call: Call) -> Call {
+        let Some(random) = &mut self.memory_kinds else { return call };
+        let Some(kind) = naming_memory_kind(call.kind) else { return call };
+        let number = match random.below(24) {
+            0 => random.one_of(&[8, u32::MAX]),
+            _ => random.below(8) as u32,
+        };
+        let [block, index, target, rights, _] = call.arguments;
+        match random.below(2) {
+            0 => Call { kind, arguments: [block, index, target, rights, number] },
+            _ => call,
+        }
+    }
+
+    /// The kinds of the next begin that names any: at times one that is not lawful, or a byte too few or too many.
+    fn draw_kinds(&mut self) {
+        let Some(random) = &mut self.memory_kinds else { return };
+        let (mut kinds, choice) = (random_kinds(random), random.below(10));
+        if choice == 0 {
+            kinds[random.below(8)] = random_unlawful(random);
+        }
+        let mut bytes = kind_bytes(&kinds);
+        match choice {
+            1 => bytes.truncate(KINDS_BYTES - 1),
+            2 => bytes.push(0),
+            _ => {}
+        }
+        self.scene.store.kinds = bytes;
+    }
+
+    fn drawn(&mut self) -> Call {
         if let Some(call) = self.plan.pop_front() {
             return call;
         }
@@ -189,15 +258,17 @@ impl Lister {
         let same = self.told.first as u32;
         let first = [same, same, same, 0, 0x100, 0x200, 0x700, 0xFF0, u32::MAX][self.random.below(9)];
         let pages = self.mapped();
+        self.draw_kinds();
         self.plan.push_back(Call::new(Begin, &[first]));
         self.plan.extend(pages.into_iter().map(|page| Call::new(Fetch, &[page])));
         Call::new(Read, &[0])
     }
 
     fn anything(&mut self) -> Call {
-        let kind = self.random.one_of(&Kind::ALL[1..]);
-        let mut arguments = [0; 4];
-        for argument in &mut arguments {
+        let calls = Kind::ALL.into_iter().filter(|call| *call != Begin && plain_call(*call).is_none());
+        let kind = self.random.one_of(&calls.collect::<Vec<Kind>>());
+        let mut arguments = [0; NUMBERS];
+        for argument in &mut arguments[..RECORD_WORDS] {
             *argument = match self.random.below(4) {
                 0 => self.random.next() as u32,
                 1 => self.random.below(8) as u32,

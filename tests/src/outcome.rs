@@ -8,11 +8,12 @@ pub struct Lent<'a> {
     pub memory: &'a [u8],
     pub ledger: &'a [u8],
     pub golden: &'a [u8],
+    pub kinds: &'a [u8],
 }
 
 impl<'a> From<&'a Store> for Lent<'a> {
     fn from(store: &'a Store) -> Lent<'a> {
-        Lent { memory: &store.memory, ledger: &store.ledger, golden: &store.golden }
+        Lent { memory: &store.memory, ledger: &store.ledger, golden: &store.golden, kinds: &store.kinds }
     }
 }
 

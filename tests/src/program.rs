@@ -9,7 +9,8 @@ pub const BLOCKS: usize = 16;
 
 /// What the program starts from (program 1).
 pub fn store() -> Store {
-    Store { memory: Rc::new(vec![0; BLOCK * BLOCKS]), ledger: vec![0; ledger_bytes(BLOCKS)], golden: Vec::new() }
+    let (memory, ledger) = (Rc::new(vec![0; BLOCK * BLOCKS]), vec![0; ledger_bytes(BLOCKS)]);
+    Store { memory, ledger, golden: Vec::new(), kinds: Vec::new() }
 }
 
 /// The sample (program 7): calls, their arguments and their lines.

@@ -1,10 +1,11 @@
-//! Lists 7 to 12 and 14 find unsafe monitors by themselves: each monitor here is compared with nothing.
+//! Lists 7 to 12, 14 and 15 find unsafe monitors by themselves: each monitor here is compared with nothing.
 use std::collections::BTreeSet;
 use tests::faults::{self, Seeded};
-use tests::lists;
+use tests::lists::{self, List};
 use tests::reference::Reference;
 
-/// Faults, each with the clauses that it breaks in the first list in which it breaks any. Every clause is broken alone by one of them.
+/// Faults, each with the clauses that it breaks in the first list without kinds in which it breaks any. Every clause but lists 15 is broken alone by one
+/// of them.
 const UNSAFE: [(&str, &[u32]); 92] = [
     ("create_l2: 11 is not tested", &[7, 11]),
     ("create_l2: 11 compares new entries with the old counters only", &[7, 11]),
@@ -100,18 +101,94 @@ const UNSAFE: [(&str, &[u32]); 92] = [
     ("forget: forget marks", &[14]),
 ];
 
+/// Faults about kinds and of calls that name them, with the clauses that each breaks in the first list with kinds in which it breaks any.
+const UNSAFE_WITH_KINDS: [(&str, &[u32]); 58] = [
+    ("begin: begin leaves the kinds", &[15]),
+    ("begin: begin without kinds stores 0", &[15]),
+    ("begin: begin without kinds stores 7", &[15]),
+    ("begin: begin without kinds stores another kind 7", &[15]),
+    ("begin_kinds: begin leaves the kinds", &[15]),
+    ("begin_kinds: begin stores the first four kinds", &[15]),
+    ("begin_kinds: begin stores the kinds in another order", &[15]),
+    ("begin_kinds: begin exchanges the kinds of each two", &[15]),
+    ("begin_kinds: begin stores each kind under the next number", &[15]),
+    ("begin_kinds: begin with kinds stores B and C eight times", &[15]),
+    ("begin_kinds: begin stores kinds without S and nG", &[15]),
+    ("begin_kinds: 15 bytes of kinds are taken", &[15]),
+    ("begin_kinds: 17 bytes of kinds are taken", &[15]),
+    ("begin_kinds: begin keeps the marks", &[8, 14]),
+    ("begin_kinds: begin keeps w", &[9]),
+    ("begin_kinds: begin keeps the active word", &[11]),
+    ("create_l1: a create or free writes the first kinds", &[15]),
+    ("create_l2: a create or free writes the first kinds", &[15]),
+    ("free_l2: a create or free writes the first kinds", &[15]),
+    ("map_l1: a map writes the first kinds", &[15]),
+    ("map_l2: a map writes the first kinds", &[15]),
+    ("map_l2_kind: a map writes the last kinds", &[15]),
+    ("map_l2_kind: a map makes its kind the first", &[15]),
+    ("map_large_kind: a map writes the first kinds", &[15]),
+    ("link: a link writes the first kinds", &[15]),
+    ("unmap_l1: an unmap writes the first kinds", &[15]),
+    ("unmap_l2: an unmap writes the first kinds", &[15]),
+    ("unmap_large: an unmap writes the first kinds", &[15]),
+    ("switch: a switch writes the first kinds", &[15]),
+    ("switch: a switch writes the block behind the active word too", &[15]),
+    ("write: a write of the guest writes the last kinds", &[15]),
+    ("forget: forget writes the last kinds", &[15]),
+    ("forget: forget clears the kinds", &[15]),
+    ("map_l2_kind: 11 is not tested", &[7]),
+    ("map_l2_kind: 12 is not tested", &[8, 14]),
+    ("map_l2_kind: 7 is not tested", &[8]),
+    ("map_l2_kind: no counter is changed", &[9, 12]),
+    ("map_l2_kind: write onto x above 0 is taken", &[7, 8, 11]),
+    ("map_l2_kind: execute onto w above 0 is taken", &[7]),
+    ("map_l2_kind: the holder may be executed", &[8, 11, 14]),
+    ("map_l2_kind: a writable target may have any type", &[10]),
+    ("map_l2_kind: a counter of 2 is refused", &[12]),
+    ("map_l2_kind: the holder keeps its mark", &[8, 14]),
+    ("map_l1_kind: a section counts on its first block", &[9]),
+    ("map_l1_kind: a map to read marks the target", &[14]),
+    ("map_large_kind: 11 looks at the first of several blocks", &[7]),
+    ("map_large_kind: 12 looks at the first of several blocks", &[8, 14]),
+    ("map_large_kind: one of sixteen words is written", &[12]),
+    ("map_large_kind: a kind stands in the first of sixteen words only", &[12]),
+    ("map_large_kind: the first of sixteen counters is changed", &[7, 9, 12]),
+    ("map_l1_kind: a section has TEX where a page has it", &[9]),
+    ("map_large_kind: a large page has TEX where a page has it", &[12]),
+    ("map_l1_kind: a section has S and nG where a page has them", &[9]),
+    ("map_l2_kind: a page has TEX where a section has it", &[9]),
+    ("map_l2: a page has S and nG where a section has them", &[9]),
+    ("map_l2_kind: the bits of a kind stand one place too low", &[9]),
+    ("map_l2_kind: memory that is not cached is mapped to be read only", &[9]),
+    ("map_l2_kind: device memory is mapped without execute", &[9]),
+];
+
 fn monitor(fault: &str) -> Seeded {
     Seeded { fault: Some(faults::named(fault).unwrap_or_else(|| panic!("no fault '{fault}'"))) }
+}
+
+/// In the first of these lists in which the fault breaks any clause, it breaks these.
+fn must_break(fault: &str, clauses: &[u32], lists: impl Iterator<Item = List>) {
+    let monitor = monitor(fault);
+    let broken = lists::broken_by(&monitor, lists).find(|broken| !broken.is_empty()).unwrap_or_default();
+    assert_eq!(broken, BTreeSet::from_iter(clauses.iter().copied()), "{fault}");
 }
 
 #[test]
 fn unsafe_monitors_are_found() {
     for (fault, clauses) in UNSAFE {
-        let broken = lists::broken_by(&monitor(fault)).find(|broken| !broken.is_empty()).unwrap_or_default();
-        assert_eq!(broken, BTreeSet::from_iter(clauses.iter().copied()), "{fault}");
+        must_break(fault, clauses, lists::lists_without_kinds());
     }
     let clauses = (7..=12).chain([14]);
     assert!(clauses.into_iter().all(|clause| UNSAFE.iter().any(|(_, clauses)| *clauses == [clause])));
+}
+
+#[test]
+fn unsafe_monitors_with_kinds_are_found() {
+    for (fault, clauses) in UNSAFE_WITH_KINDS {
+        must_break(fault, clauses, lists::lists_with_kinds());
+    }
+    assert!(UNSAFE_WITH_KINDS.iter().any(|(_, clauses)| *clauses == [15]));
 }
 
 /// Faults that no list shows by anything but an answer of 13 or 24.
@@ -124,7 +201,7 @@ fn answers_alone_are_found() {
         "fetch: a fault on the walk gives 24",
     ] {
         assert_eq!(
-            lists::broken_by(&monitor(fault)).flatten().collect::<BTreeSet<u32>>(),
+            lists::broken_by(&monitor(fault), lists::lists()).flatten().collect::<BTreeSet<u32>>(),
             BTreeSet::from([12]),
             "{fault}"
         );
@@ -133,5 +210,5 @@ fn answers_alone_are_found() {
 
 #[test]
 fn the_plain_reference_keeps_the_demand() {
-    assert!(lists::broken_by(&Reference::new()).all(|broken| broken.is_empty()));
+    assert!(lists::broken_by(&Reference::new(), lists::lists()).all(|broken| broken.is_empty()));
 }

@@ -5,7 +5,7 @@ use std::process::Command;
 use std::rc::Rc;
 use tests::bytes::word;
 use tests::cases::scene::*;
-use tests::monitor::{Call, Given, Kind, Monitor, BLOCK, NO_TABLE};
+use tests::monitor::{plain_call, Call, Given, Kind, Monitor, BLOCK, KINDS_AT, LEDGER_HEAD, NO_TABLE};
 use tests::reference::entries::{page_number, page_rights, Level};
 use tests::reference::Reference;
 use tests::sha256::Sha256;
@@ -113,6 +113,82 @@ fn written_words() {
     let mut scene = typed(16);
     assert_eq!(answer(&mut scene, Link, &[0x100, 2, 0x104, 3]), 0);
     assert_eq!(scene.word(0, 2), 0x0010_4C01);
+}
+
+/// The words that each bit of a kind makes of rights 1, one bit at a time.
+#[test]
+fn written_kinds() {
+    let pages = [0x023, 0x027, 0x02B, 0x063, 0x0A3, 0x123, 0x423, 0x823];
+    let sections = [0x0812, 0x0816, 0x081A, 0x1812, 0x2812, 0x4812, 0x1_0812, 0x2_0812];
+    let large = [0x8021, 0x8025, 0x8029, 0x9021, 0xA021, 0xC021, 0x8421, 0x8821];
+    let mut scene = typed(512);
+    scene.set_kinds(&[0x00, 0x01, 0x02, 0x04, 0x08, 0x10, 0x20, 0x40]);
+    for number in 0..8 {
+        let at = number as usize;
+        assert_eq!(answer(&mut scene, MapL2Kind, &[0x104, number, 0x105, 1, number]), 0);
+        assert_eq!(scene.word(4, at), 0x0010_5000 + pages[at]);
+        assert_eq!(answer(&mut scene, MapL1Kind, &[0x100, number, 0x200, 1, number]), 0);
+        assert_eq!(scene.word(0, at), 0x0020_0000 + sections[at]);
+        assert_eq!(answer(&mut scene, MapLargeKind, &[0x104, 16 + 16 * number, 0x110, 1, number]), 0);
+        assert!((0..16).all(|entry| scene.word(4, 16 + 16 * at + entry) == 0x0011_0000 + large[at]));
+    }
+    scene.set_kinds(&[0x7F; 8]);
+    assert_eq!(answer(&mut scene, MapL2, &[0x104, 1023, 0x105, 3]), 0);
+    assert_eq!(scene.word(4, 1023), 0x0010_5DFF);
+    assert_eq!(answer(&mut scene, MapL1, &[0x100, 4095, 0x200, 3]), 0);
+    assert_eq!(scene.word(0, 4095), 0x0023_7C1E);
+    assert_eq!(answer(&mut scene, MapLarge, &[0x104, 992, 0x110, 3]), 0);
+    assert_eq!(scene.word(4, 1007), 0x0011_FC3D);
+}
+
+/// A kind above 7 gives 4, after 2 and 3 and before 5.
+#[test]
+fn numbers_of_kinds() {
+    for (number, expected) in [(0, 0), (7, 0), (8, 4), (u32::MAX, 4)] {
+        assert_eq!(answer(&mut typed(512), MapL1Kind, &[0x100, 0, 0x200, 1, number]), expected);
+        assert_eq!(answer(&mut typed(16), MapL2Kind, &[0x104, 0, 0x105, 1, number]), expected);
+        assert_eq!(answer(&mut typed(32), MapLargeKind, &[0x104, 16, 0x110, 1, number]), expected);
+    }
+    assert_eq!(answer(&mut typed(512), MapL1Kind, &[0xFC, 0, 0x201, 1, 8]), 2);
+    assert_eq!(answer(&mut typed(512), MapL1Kind, &[0x100, 0, 0x201, 1, 8]), 3);
+    assert_eq!(answer(&mut typed(512), MapL1Kind, &[0x104, 0, 0x200, 1, 8]), 4);
+    assert_eq!(answer(&mut typed(16), MapL2Kind, &[0x105, 0, 0x105, 1, 8]), 4);
+    assert_eq!(answer(&mut typed(16), MapL2Kind, &[0x105, 0, 0x105, 1, 7]), 5);
+}
+
+/// Every call but the two begins refuses a ledger with one unlawful kind, and these replace it.
+#[test]
+fn unlawful_kinds() {
+    for number in 0..8 {
+        for (kind, is_lawful) in [(0x7F, true), (0x80, false), (0x100, false), (0xFFFF, false)] {
+            for call in Kind::ALL {
+                let mut scene = typed(16);
+                scene.set_kind(number, kind);
+                let refused = answer(&mut scene, call, &[0x100]) == 1;
+                let begins = call == Begin || plain_call(call) == Some(Begin);
+                assert_eq!(refused, !is_lawful && !begins, "{call:?} with kind {number} = {kind:#x}");
+            }
+        }
+    }
+}
+
+#[test]
+fn kinds_that_begin_is_given() {
+    for (kinds, expected) in [
+        (kind_bytes(&[0x7F; 8]), 0),
+        (kind_bytes(&[0; 8]), 0),
+        (vec![0; 15], 1),
+        (vec![0; 17], 1),
+        (Vec::new(), 1),
+        (kind_bytes(&[0, 0, 0, 0, 0, 0, 0, 0x80]), 1),
+        (kind_bytes(&[0x100, 0, 0, 0, 0, 0, 0, 0]), 1),
+    ] {
+        let mut scene = Scene::new(0x100, 8);
+        scene.store.kinds = kinds.clone();
+        assert_eq!(answer(&mut scene, BeginKinds, &[0x100]), expected, "{kinds:02x?}");
+        let left = if expected == 0 { kinds } else { kind_bytes(&KINDS) };
+        assert_eq!(scene.store.ledger[KINDS_AT..LEDGER_HEAD], left);
+    }
 }
 
 #[test]
@@ -271,7 +347,8 @@ fn begin_leaves_a_fresh_ledger_and_the_memory() {
     assert_eq!(answer(&mut scene, Begin, &[0xFFF00]), 0);
     assert_eq!(word(&scene.store.ledger, 0), 0xFFF00);
     assert_eq!(word(&scene.store.ledger, 4), NO_TABLE);
-    assert!(scene.store.ledger[8..].iter().all(|byte| *byte == 0));
+    assert_eq!(scene.store.ledger[KINDS_AT..LEDGER_HEAD], [3, 0, 3, 0, 3, 0, 3, 0, 3, 0, 3, 0, 3, 0, 3, 0]);
+    assert!(scene.store.ledger[LEDGER_HEAD..].iter().all(|byte| *byte == 0));
     assert!(scene.store.memory.iter().all(|byte| *byte == 7));
 }
 

@@ -1,7 +1,8 @@
 //! The runner of lists of records beside the reference: the records obeyed, every answer and byte, and all of memory and ledger.
 use std::rc::Rc;
+use tests::cases::scene::{kind_bytes, Scene};
 use tests::lists::Lister;
-use tests::monitor::{ledger_bytes, Call, Given, Kind, Store, BLOCK};
+use tests::monitor::{ledger_bytes, Call, Given, Kind, Monitor, Store, BLOCK, NUMBERS};
 use tests::program::{bad_records, records, RECORD_BYTES};
 use tests::random::Random;
 use tests::reference::Reference;
@@ -126,14 +127,59 @@ fn bad_records_end_the_list() {
 #[test]
 fn unlawful_buffers() {
     let mut random = Random::new(4);
-    let calls = Kind::recorded().map(|kind| Call { kind, arguments: [(); 4].map(|()| random.below(16) as u32) });
+    let calls = Kind::recorded().map(|kind| Call { kind, arguments: [(); NUMBERS].map(|()| random.below(16) as u32) });
     let refused: Vec<_> = calls.map(|call| (call, Given { answer: 1, ..Given::default() })).collect();
     let right = ledger_bytes(8);
     let lengths = [(0, 0), (7 * BLOCK, ledger_bytes(7)), (8 * BLOCK - 1, right), (8 * BLOCK, right + 1)];
     for (memory, ledger) in lengths {
-        let store =
-            Store { memory: Rc::new(random.bytes(memory)), ledger: random.bytes(ledger), golden: random.bytes(32) };
+        let (memory_bytes, ledger_bytes) = (Rc::new(random.bytes(memory)), random.bytes(ledger));
+        let store = Store { memory: memory_bytes, ledger: ledger_bytes, golden: random.bytes(32), kinds: Vec::new() };
         let part = Part { before: store.clone(), steps: refused.clone(), after: store };
         part.must_come_of_its_records(&format!("{memory} bytes of memory, {ledger} of ledger"));
+    }
+}
+
+/// A region that a direct call has begun with kinds: the maps of the records take kind 0, and a begin among them stores its own kinds.
+#[test]
+fn a_region_with_kinds() {
+    let mut scene = Scene::new(0x100, 32);
+    scene.store.kinds = kind_bytes(&[0x47, 0x03, 0x7F, 0x00, 0x15, 0x2A, 0x5B, 0x31]);
+    let begun = Reference::new().perform(Call::new(Kind::BeginKinds, &[0x100]), &mut scene.store);
+    assert_eq!(begun.answer, 0);
+    let set_up: [(Kind, &[u32]); 4] = [
+        (Kind::CreateL2, &[0x104]),
+        (Kind::MapL2, &[0x104, 5, 0x108, 3]),
+        (Kind::MapLarge, &[0x104, 16, 0x110, 1]),
+        (Kind::Begin, &[0x100]),
+    ];
+    let mut after = scene.store.clone();
+    let steps = set_up.map(|(kind, arguments)| {
+        let call = Call::new(kind, arguments);
+        (call, Reference::new().perform(call, &mut after))
+    });
+    assert!(steps.iter().all(|(_, given)| given.answer == 0));
+    let part = Part { before: scene.store, steps: steps.to_vec(), after };
+    part.must_come_of_its_records("a region with kinds");
+    let left = Scene { first: 0x100, store: part.after };
+    assert_eq!(left.word(4, 5), 0x0010_8000 + 0x033 + 0x84C);
+    assert_eq!(left.word(4, 31), 0x0011_0000 + 0x8021 + 0x180C);
+    assert_eq!(left.store.ledger[8..24], [3, 0].repeat(8));
+}
+
+/// A ledger with a kind that is not lawful: every step is refused until a begin is accepted.
+#[test]
+fn unlawful_kinds() {
+    for number in 0..8 {
+        let mut scene = Scene::new(0x100, 16);
+        scene.set_kind(number, 0x80);
+        let mut after = scene.store.clone();
+        let mut steps = Vec::new();
+        for kind in Kind::recorded().filter(|kind| *kind != Kind::Begin).chain([Kind::Begin, Kind::CreateL1]) {
+            let call = Call::new(kind, &[0x100]);
+            steps.push((call, Reference::new().perform(call, &mut after)));
+        }
+        assert_eq!(steps.iter().filter(|(_, given)| given.answer == 1).count(), 15);
+        let part = Part { before: scene.store, steps, after };
+        part.must_come_of_its_records(&format!("an unlawful kind {number}"));
     }
 }

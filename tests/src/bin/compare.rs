@@ -137,11 +137,11 @@ fn lists(candidate: &dyn Monitor, reference: &dyn Monitor) -> bool {
         return false;
     }
     let steps: usize = comparer.tallies.values().map(|tally| tally.cases).sum();
-    println!("lists       {steps:6} steps, {:4.1} s", start.elapsed().as_secs_f32());
+    println!("lists          {steps:6} steps, {:4.1} s", start.elapsed().as_secs_f32());
     for (kind, tally) in &comparer.tallies {
         let numbers: Vec<String> = tally.answers.iter().map(u32::to_string).collect();
         println!(
-            "  {:11} {:6} steps, {:5} accepted, answers {}",
+            "  {:14} {:6} steps, {:5} accepted, answers {}",
             kind.name(),
             tally.cases,
             tally.accepted,
@@ -157,7 +157,7 @@ fn lists(candidate: &dyn Monitor, reference: &dyn Monitor) -> bool {
 fn summary(kind: Kind, tally: &Tally, start: Instant) -> bool {
     let numbers: Vec<String> = tally.answers.iter().map(u32::to_string).collect();
     println!(
-        "{:11} {:6} cases, {:3} pairs of reasons, {:4.1} s, answers {}",
+        "{:14} {:6} cases, {:3} pairs of reasons, {:4.1} s, answers {}",
         kind.name(),
         tally.cases,
         tally.pairs.len(),

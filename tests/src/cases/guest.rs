@@ -295,6 +295,7 @@ impl Guest {
             let mut scene = Scene::new(256 * random.below(4) as u32, blocks);
             scene.set_active(scene.block(4 * random.below(blocks.min(16) / 4)));
             (0..blocks).for_each(|position| scene.set_record(position, MARK, random_mark(&mut random)));
+            scene.draw_kinds(&mut random);
             for position in 0..blocks.min(12) {
                 for _ in 0..40 {
                     let word = random_word(&scene, &mut random);

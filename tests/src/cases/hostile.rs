@@ -36,12 +36,14 @@ fn about_l2(kind: Kind) -> bool {
     matches!(kind, CreateL2 | FreeL2 | MapL2 | UnmapL2 | MapLarge | UnmapLarge)
 }
 
-fn case(kind: Kind, blocks: usize, random: &mut Random) -> super::Case {
+/// One case, of a call that names no kind.
+pub fn case(kind: Kind, blocks: usize, random: &mut Random) -> super::Case {
     let mut scene = Scene::new(256 * random.below(3) as u32, blocks);
     let table = 4 * random.below(blocks.min(16) / 4);
     records(kind, &mut scene, table, random);
     words(kind, &mut scene, table, random);
     golden(&mut scene, random);
+    scene.draw_kinds(random);
     scene.set_active([NO_TABLE, scene.block(table), random.next() as u32][random.below(3)]);
     if random.below(30) == 0 {
         put_word(&mut scene.store.ledger, 0, random.next() as u32 & 0xFFFFF);

@@ -2,7 +2,7 @@
 use super::reasons::*;
 use super::scene::*;
 use crate::compare::{difference, Comparer, Outcome};
-use crate::monitor::{Call, Kind, MARKED};
+use crate::monitor::{Call, Kind, LEDGER_HEAD, MARKED};
 use crate::random::Random;
 use std::ops::Range;
 use Kind::*;
@@ -523,7 +523,8 @@ fn forget_single_blocks(comparer: &mut Comparer) -> Outcome {
     (0..16).for_each(|position| [W, X, L].iter().for_each(|which| used.set_record(position, *which, 9)));
     used.set_marks(0..16, MARKED);
     let mut ones = used.clone();
-    ones.store.ledger[8..].fill(0xFF);
+    ones.store.ledger[LEDGER_HEAD..].fill(0xFF);
+    ones.set_kinds(&[0x7F; 8]);
     for scene in [used, ones] {
         for position in 0..16 {
             comparer.check(scene.expect("one block", Forget, &[scene.block(position), 1], 0))?;
@@ -554,6 +555,7 @@ fn forget_random(comparer: &mut Comparer) -> Outcome {
         let first = scene.first;
         scene.store.ledger = random.bytes(scene.store.ledger.len());
         scene.store.ledger[..4].copy_from_slice(&first.to_le_bytes());
+        scene.draw_kinds(&mut random);
         (0..blocks).for_each(|position| scene.set_record(position, MARK, random_mark(&mut random)));
         let block = first.wrapping_add(random.below(blocks + 4) as u32).wrapping_sub(2);
         let count = random.below(blocks + 4) as u32;

@@ -1,6 +1,7 @@
 //! Cases for the comparison, call by call.
 mod guest;
 mod hostile;
+mod kinds;
 mod large;
 mod marks;
 mod reasons;
@@ -11,7 +12,7 @@ mod tables;
 mod whole;
 
 use crate::compare::{Comparer, Outcome};
-use crate::monitor::{Call, Kind, Store};
+use crate::monitor::{plain_call, Call, Kind, Store};
 
 /// A call with the buffers that it is lent, and the answer and the number of blocks hashed if they are known without the reference.
 #[derive(Clone)]
@@ -33,6 +34,16 @@ impl Case {
 /// All cases of one call; the largest regions last.
 pub fn run(kind: Kind, comparer: &mut Comparer) -> Outcome {
     regions::small(kind, comparer)?;
+    match plain_call(kind) {
+        Some(plain) => comparer.naming_memory_kinds(|comparer| rules(plain, comparer))?,
+        None => rules(kind, comparer)?,
+    }
+    kinds::run(kind, comparer)?;
+    regions::large(kind, comparer)
+}
+
+/// The cases of a call that names no kinds, or no kind.
+fn rules(kind: Kind, comparer: &mut Comparer) -> Outcome {
     match kind {
         Kind::Begin => simple::begin(comparer)?,
         Kind::Switch => simple::switch(comparer)?,
@@ -50,6 +61,5 @@ pub fn run(kind: Kind, comparer: &mut Comparer) -> Outcome {
             hostile::run(kind, comparer)?;
         }
     }
-    marks::run(kind, comparer)?;
-    regions::large(kind, comparer)
+    marks::run(kind, comparer)
 }

@@ -3,7 +3,7 @@ use super::scene::*;
 use super::Case;
 use crate::bytes::put_word;
 use crate::compare::{Comparer, Outcome};
-use crate::monitor::{Kind, BLOCK, LEDGER_RECORD, MARKED};
+use crate::monitor::{Kind, BLOCK, LEDGER_HEAD, LEDGER_RECORD, MARKED};
 use crate::random::Random;
 use std::rc::Rc;
 use Kind::*;
@@ -41,23 +41,23 @@ pub fn valid(kind: Kind, first: u32, blocks: usize) -> Case {
     }
     let (table, page_table) = (scene.block(0), scene.block(4));
     let arguments: &[u32] = match kind {
-        Begin => &[first],
+        Begin | BeginKinds => &[first],
         CreateL1 | FreeL1 | Switch => &[table],
         CreateL2 | FreeL2 => &[page_table],
-        MapL1 => &[table, 7, first, 1],
-        MapL2 => &[page_table, 9, scene.block(5), 3],
+        MapL1 | MapL1Kind => &[table, 7, first, 1, 5],
+        MapL2 | MapL2Kind => &[page_table, 9, scene.block(5), 3, 7],
         Link => &[table, 9, page_table, 3],
         UnmapL1 => &[table, 0],
         UnmapL2 => &[page_table, 0],
-        MapLarge => &[page_table, 16, first, 1],
+        MapLarge | MapLargeKind => &[page_table, 16, first, 1, 1],
         UnmapLarge => &[page_table, 32],
         Read | Write => &[0x123, 0x5A],
         Fetch => &[0x1FFF],
         Forget => &[first, blocks as u32],
     };
     let needed = match kind {
-        MapL1 => 256,
-        MapLarge | UnmapLarge => 16,
+        MapL1 | MapL1Kind => 256,
+        MapLarge | MapLargeKind | UnmapLarge => 16,
         _ => 0,
     };
     let answer = if blocks < needed { 10 } else { 0 };
@@ -72,8 +72,8 @@ fn top(blocks: usize) -> u32 {
 pub fn small(kind: Kind, comparer: &mut Comparer) -> Outcome {
     sizes(kind, comparer, &[8, 9, 16])?;
     wrong_lengths(kind, comparer)?;
-    if kind == Begin {
-        stored_first_block(comparer)?;
+    if matches!(kind, Begin | BeginKinds) {
+        stored_first_block(kind, comparer)?;
     }
     Ok(())
 }
@@ -116,11 +116,15 @@ fn wrong_lengths(kind: Kind, comparer: &mut Comparer) -> Outcome {
             (memory, ledger - LEDGER_RECORD),
             (memory, ledger + LEDGER_RECORD),
             (memory, 8 + 16 * blocks),
+            (memory, 8 + LEDGER_RECORD * blocks),
+            (memory, 16 + LEDGER_RECORD * blocks),
             (memory, ledger - 8),
             (memory, 2 * ledger),
             (memory, 0),
             (memory, 3),
             (memory, 8),
+            (memory, LEDGER_HEAD - 1),
+            (memory, LEDGER_HEAD),
             (memory - 1, ledger),
             (memory + 1, ledger),
             (memory - 1, ledger - LEDGER_RECORD),
@@ -131,8 +135,10 @@ fn wrong_lengths(kind: Kind, comparer: &mut Comparer) -> Outcome {
             (memory + 16, ledger),
             (0, ledger),
             (0, 8),
+            (0, LEDGER_HEAD),
             (0, 0),
             (1, 8),
+            (1, LEDGER_HEAD),
         ];
         for (memory, ledger) in lengths {
             let mut other = refused(case.clone());
@@ -146,10 +152,10 @@ fn wrong_lengths(kind: Kind, comparer: &mut Comparer) -> Outcome {
 }
 
 /// Begin looks at the B that it is given, not at the stored one.
-fn stored_first_block(comparer: &mut Comparer) -> Outcome {
+fn stored_first_block(kind: Kind, comparer: &mut Comparer) -> Outcome {
     for stored in [1, 255, 0x200, 1 << 20, u32::MAX] {
         for given in [0, 0x100, 0x80, 1 << 20] {
-            let mut case = valid(Begin, 0x100, 16);
+            let mut case = valid(kind, 0x100, 16);
             put_word(&mut case.store.ledger, 0, stored);
             case.call.arguments[0] = given;
             let answer = u32::from(given == 0x80 || given == 1 << 20);

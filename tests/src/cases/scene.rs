@@ -2,7 +2,7 @@
 use super::Case;
 use crate::bytes::{put_word, word};
 use crate::hasher::digest;
-use crate::monitor::{own, Call, Kind, Store, BLOCK, LEDGER_HEAD, LEDGER_RECORD, NO_TABLE};
+use crate::monitor::{own, Call, Kind, Store, BLOCK, KINDS_AT, LEDGER_HEAD, LEDGER_RECORD, NO_TABLE};
 use crate::random::Random;
 use std::rc::Rc;
 
@@ -29,6 +29,30 @@ pub const SECTION_WRITE: u32 = 0xC1E;
 pub const SECTION_EXECUTE: u32 = 0x80E;
 pub const SECTION_ALL: u32 = 0xC0E;
 
+/// Memory kinds of a region, which all differ. The first is that of a begin that names none, and has the bits of the low bits above.
+pub const KINDS: [u16; 8] = [0x03, 0x7F, 0x00, 0x15, 0x2A, 0x44, 0x31, 0x5B];
+/// Others, for a begin that names them.
+pub const NEW_KINDS: [u16; 8] = [0x12, 0x00, 0x7F, 0x03, 0x68, 0x25, 0x4C, 0x01];
+
+/// Their bytes.
+pub fn kind_bytes(kinds: &[u16]) -> Vec<u8> {
+    kinds.iter().flat_map(|kind| kind.to_le_bytes()).collect()
+}
+
+/// Eight lawful kinds.
+pub fn random_kinds(random: &mut Random) -> [u16; 8] {
+    [(); 8].map(|()| random.below(128) as u16)
+}
+
+/// A kind that is not lawful.
+pub fn random_unlawful(random: &mut Random) -> u16 {
+    match random.below(4) {
+        0 => random.next() as u16 | 0x80,
+        1 => random.next() as u16 | 1 << (8 + random.below(8)),
+        _ => random.one_of(&[0x80, 0x83, 0xFF, 0x100, 0x103, 0x8000, 0xFFFF]),
+    }
+}
+
 /// A region in the making. Blocks are counted from the region's start.
 #[derive(Clone)]
 pub struct Scene {
@@ -37,12 +61,15 @@ pub struct Scene {
 }
 
 impl Scene {
-    /// Memory of zeros, and the ledger that begin leaves.
+    /// Memory of zeros, and the ledger that begin leaves with these kinds.
     pub fn new(first: u32, blocks: usize) -> Scene {
         let mut ledger = vec![0; LEDGER_HEAD + LEDGER_RECORD * blocks];
         put_word(&mut ledger, 0, first);
         put_word(&mut ledger, 4, NO_TABLE);
-        Scene { first, store: Store { memory: Rc::new(vec![0; BLOCK * blocks]), ledger, golden: Vec::new() } }
+        let (memory, golden, kinds) = (Rc::new(vec![0; BLOCK * blocks]), Vec::new(), kind_bytes(&NEW_KINDS));
+        let mut scene = Scene { first, store: Store { memory, ledger, golden, kinds } };
+        scene.set_kinds(&KINDS);
+        scene
     }
 
     pub fn blocks(&self) -> usize {
@@ -72,6 +99,25 @@ impl Scene {
     pub fn set_marks(&mut self, positions: std::ops::Range<usize>, mark: u32) {
         for position in positions {
             self.set_record(position, MARK, mark);
+        }
+    }
+
+    pub fn set_kinds(&mut self, kinds: &[u16; 8]) {
+        (0..8).for_each(|number| self.set_kind(number, kinds[number]));
+    }
+
+    pub fn set_kind(&mut self, number: usize, kind: u16) {
+        let at = KINDS_AT + 2 * number;
+        if let Some(place) = self.store.ledger.get_mut(at..at + 2) {
+            place.copy_from_slice(&kind.to_le_bytes());
+        }
+    }
+
+    /// Any kinds, seldom one that is not lawful.
+    pub fn draw_kinds(&mut self, random: &mut Random) {
+        self.set_kinds(&random_kinds(random));
+        if random.below(30) == 0 {
+            self.set_kind(random.below(8), random_unlawful(random));
         }
     }
 

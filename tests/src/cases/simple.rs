@@ -88,6 +88,7 @@ fn switch_random(comparer: &mut Comparer) -> Outcome {
             }
             scene.set_record(position, MARK, random_mark(&mut random));
         }
+        scene.draw_kinds(&mut random);
         scene.set_active([NO_TABLE, 0, random.next() as u32][random.below(3)]);
         let block = scene.first.wrapping_add(random.below(blocks + 4) as u32).wrapping_sub(2);
         comparer.check(scene.case("random types", Kind::Switch, &[block]))?;

@@ -44,7 +44,7 @@ pub struct Mapping {
     pub rights: Rights,
 }
 
-/// entries 4: five kinds, or not accepted.
+/// entries 4: five sorts, or not accepted.
 #[derive(Clone, Copy, PartialEq, Eq, Debug)]
 pub enum Entry {
     Fault,
@@ -175,22 +175,45 @@ pub fn page_number(low: u32) -> u32 {
 }
 
 /// entries 15, by the call that maps
-pub fn mapping_word(kind: Kind, target: u32, rights: u32) -> u32 {
-    let low = match (kind, rights) {
-        (Kind::MapL1, 0) => 0x41E,
-        (Kind::MapL1, 1) => 0x81E,
-        (Kind::MapL1, 3) => 0xC1E,
-        (Kind::MapL1, _) => 0x80E,
-        (Kind::MapLarge, 0) => 0x801D,
-        (Kind::MapLarge, 1) => 0x802D,
-        (Kind::MapLarge, 3) => 0x803D,
-        (Kind::MapLarge, _) => 0x002D,
-        (_, 0) => 0x01F,
-        (_, 1) => 0x02F,
-        (_, 3) => 0x03F,
-        (_, _) => 0x02E,
-    };
-    target << 12 | low
+pub fn mapping_word(call: Kind, target: u32, rights: u32, kind: u32) -> u32 {
+    target << 12 | access_bits(call, rights) | kind_bits(call, kind)
+}
+
+/// entries 15
+fn access_bits(call: Kind, rights: u32) -> u32 {
+    match (call, rights) {
+        (Kind::MapL1Kind, 0) => 0x412,
+        (Kind::MapL1Kind, 1) => 0x812,
+        (Kind::MapL1Kind, 3) => 0xC12,
+        (Kind::MapL1Kind, _) => 0x802,
+        (Kind::MapLargeKind, 0) => 0x8011,
+        (Kind::MapLargeKind, 1) => 0x8021,
+        (Kind::MapLargeKind, 3) => 0x8031,
+        (Kind::MapLargeKind, _) => 0x0021,
+        (_, 0) => 0x013,
+        (_, 1) => 0x023,
+        (_, 3) => 0x033,
+        (_, _) => 0x022,
+    }
+}
+
+/// The fields of a memory kind, each at its place in the word (entries 15).
+fn kind_bits(call: Kind, kind: u32) -> u32 {
+    kind_fields(kind).into_iter().zip(kind_places(call)).map(|(field, place)| field << place).sum()
+}
+
+/// ledger 12: B, C, TEX, S and nG
+fn kind_fields(kind: u32) -> [u32; 5] {
+    [bits(kind, 0, 0), bits(kind, 1, 1), bits(kind, 4, 2), bits(kind, 5, 5), bits(kind, 6, 6)]
+}
+
+/// entries 15: the lowest bit of each of these
+fn kind_places(call: Kind) -> [u32; 5] {
+    match call {
+        Kind::MapL1Kind => [2, 3, 12, 16, 17],
+        Kind::MapLargeKind => [2, 3, 12, 10, 11],
+        _ => [2, 3, 6, 10, 11],
+    }
 }
 
 /// entries 16

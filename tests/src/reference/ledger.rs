@@ -2,7 +2,7 @@
 use super::entries::Entry;
 use super::View;
 use crate::bytes::word;
-use crate::monitor::{Kind, LEDGER_HEAD, LEDGER_RECORD};
+use crate::monitor::{Kind, KINDS_AT, KINDS_BYTES, LEDGER_HEAD, LEDGER_RECORD};
 
 /// The words of a record (ledger 3).
 pub const TYPE: usize = 0;
@@ -40,6 +40,27 @@ impl View<'_> {
         word(self.ledger, ACTIVE)
     }
 
+    /// The bytes of the memory kinds (ledger 11), in begin those that it is given (begin 1).
+    pub fn kinds(&self) -> &[u8] {
+        let stored = self.ledger.get(KINDS_AT..KINDS_AT + KINDS_BYTES);
+        if self.kind == Kind::BeginKinds {
+            self.given_kinds
+        } else {
+            stored.unwrap_or(&[])
+        }
+    }
+
+    /// The memory kind of a number (ledger 11), 0 if there is none.
+    pub fn memory_kind(&self, number: usize) -> u32 {
+        let bytes = self.kinds().chunks_exact(2).nth(number);
+        bytes.map_or(0, |bytes| u32::from(bytes[0]) + 256 * u32::from(bytes[1]))
+    }
+
+    /// refusal 1, begin 1: the kinds are not eight, or one of them is not lawful (ledger 12).
+    pub fn kinds_wrong(&self) -> bool {
+        self.kinds().len() != KINDS_BYTES || (0..8).any(|number| self.memory_kind(number) > 127)
+    }
+
     /// A word of the block's record, 0 for a block outside.
     pub fn record(&self, block: u64, which: usize) -> u32 {
         self.position(block).map_or(0, |position| word(self.ledger, record_word(position, which)))
@@ -75,7 +96,7 @@ impl View<'_> {
         self.changes.get_or_init(|| match self.kind {
             Kind::CreateL1 | Kind::CreateL2 => self.counts(self.table_entries(), 1),
             Kind::FreeL1 | Kind::FreeL2 => self.counts(self.table_entries(), -1),
-            Kind::MapL1 | Kind::MapL2 | Kind::MapLarge | Kind::Link => self.counts(&self.new_entries(), 1),
+            Kind::MapL1Kind | Kind::MapL2Kind | Kind::MapLargeKind | Kind::Link => self.counts(&self.new_entries(), 1),
             Kind::UnmapL1 | Kind::UnmapL2 | Kind::UnmapLarge => self.counts(&self.indexed_entries(), -1),
             _ => Vec::new(),
         })

@@ -15,8 +15,8 @@ impl View<'_> {
     /// map target
     fn target_place(&self) -> Place {
         let count = match self.kind {
-            Kind::MapL1 => 256,
-            Kind::MapLarge => 16,
+            Kind::MapL1Kind => 256,
+            Kind::MapLargeKind => 16,
             _ => 1,
         };
         Place { first: self.target(), count }
@@ -32,7 +32,7 @@ impl View<'_> {
             1 => self.region_wrong() || self.golden_wrong(),
             2 => self.table_outside(),
             3 => self.table_unaligned() || self.index_unaligned() || self.target_unaligned(),
-            4 => self.index_large(),
+            4 => self.index_large() || self.kind_number_large(),
             5 => self.table_not(self.level().code()),
             7 => self.holder_executable(),
             8 => self.entry_taken(),
@@ -49,9 +49,18 @@ impl View<'_> {
         self.target() % self.target_place().count != 0
     }
 
+    /// map 4
+    fn kind_number_large(&self) -> bool {
+        self.kind_number() > 7
+    }
+
+    fn kind_number(&self) -> u32 {
+        self.arguments[4]
+    }
+
     /// Is the call about a large page?
     pub fn about_large(&self) -> bool {
-        matches!(self.kind, Kind::MapLarge | Kind::UnmapLarge)
+        matches!(self.kind, Kind::MapLargeKind | Kind::UnmapLarge)
     }
 
     /// map 3, unmap 3
@@ -112,17 +121,18 @@ impl View<'_> {
     pub fn new_entries(&self) -> Vec<Entry> {
         let mapping = Mapping { first: self.target(), rights: self.asked() };
         match self.kind {
-            Kind::MapL1 => vec![Entry::Section(mapping)],
-            Kind::MapL2 => vec![Entry::Page(mapping)],
-            Kind::MapLarge => (0..16).map(|position| Entry::Large(mapping, position)).collect(),
+            Kind::MapL1Kind => vec![Entry::Section(mapping)],
+            Kind::MapL2Kind => vec![Entry::Page(mapping)],
+            Kind::MapLargeKind => (0..16).map(|position| Entry::Large(mapping, position)).collect(),
             _ => vec![Entry::Link { block: self.target(), table: self.arguments[3] }],
         }
     }
 
     /// map leaves
     pub fn map_leaves(&self, outcome: &mut Outcome) {
-        let [_, _, target, rights] = self.arguments;
-        self.rewrite(mapping_word(self.kind, target, rights), outcome);
+        let [_, _, target, rights, _] = self.arguments;
+        let kind = self.memory_kind(self.kind_number() as usize);
+        self.rewrite(mapping_word(self.kind, target, rights, kind), outcome);
         self.mark_executed(outcome);
     }
 
@@ -163,7 +173,7 @@ impl View<'_> {
 
     /// link leaves
     pub fn link_leaves(&self, outcome: &mut Outcome) {
-        let [_, _, target, table] = self.arguments;
+        let [_, _, target, table, _] = self.arguments;
         self.rewrite(link_word(target, table), outcome);
     }
 

@@ -10,12 +10,13 @@ mod refusals;
 mod region;
 mod tables;
 
-use crate::monitor::{Call, Kind, Store};
+use crate::monitor::{Call, Kind, Store, NUMBERS};
 use crate::outcome::{Lent, Outcome, Outcomes};
 use entries::{Entry, Level};
 use ledger::Change;
 use refusals::Refusal;
 use std::cell::OnceCell;
+use Kind::*;
 
 #[derive(Default)]
 pub struct Reference;
@@ -46,13 +47,29 @@ pub fn answer(refusals: &[Refusal]) -> u32 {
     refusals.iter().find(|(_, test)| test()).map_or(0, |(number, _)| *number)
 }
 
-/// A call with the bytes that it is lent.
+/// begin kinds, map kind: a call that names no kinds, or no kind, as the one that does.
+fn naming_memory_kind(call: Call) -> Call {
+    let Some(kind) = crate::monitor::naming_memory_kind(call.kind) else { return call };
+    let [block, index, target, rights, _] = call.arguments;
+    Call { kind, arguments: [block, index, target, rights, 0] }
+}
+
+/// begin kinds: those that are lent, or those of a begin that names none.
+fn given_kinds(call: Kind, lent: &[u8]) -> &[u8] {
+    match call {
+        Begin => &[3, 0, 3, 0, 3, 0, 3, 0, 3, 0, 3, 0, 3, 0, 3, 0],
+        _ => lent,
+    }
+}
+
+/// A call, as one that names kinds or a kind if it is a begin or a map, with the bytes that it is lent.
 pub struct View<'a> {
     kind: Kind,
-    arguments: [u32; 4],
+    arguments: [u32; NUMBERS],
     memory: &'a [u8],
     ledger: &'a [u8],
     golden: &'a [u8],
+    given_kinds: &'a [u8],
     /// The entries of the table that the call names, once they have been read.
     entries: OnceCell<Vec<Entry>>,
     /// What the call adds to the counter of each block, once it has been counted.
@@ -61,9 +78,11 @@ pub struct View<'a> {
 
 impl<'a> View<'a> {
     pub fn new(call: Call, lent: Lent<'a>) -> View<'a> {
-        let Call { kind, arguments } = call;
-        let Lent { memory, ledger, golden } = lent;
-        View { kind, arguments, memory, ledger, golden, entries: OnceCell::new(), changes: OnceCell::new() }
+        let Call { kind, arguments } = naming_memory_kind(call);
+        let Lent { memory, ledger, golden, kinds } = lent;
+        let given_kinds = given_kinds(call.kind, kinds);
+        let (entries, changes) = (OnceCell::new(), OnceCell::new());
+        View { kind, arguments, memory, ledger, golden, given_kinds, entries, changes }
     }
 
     /// What the call gives and leaves with this answer.
@@ -76,42 +95,41 @@ impl<'a> View<'a> {
         outcome
     }
 
+    /// A begin or map that names no kind is met neither here nor in `leave`: `new` has made it the one that does.
     pub fn refusals(&self) -> Vec<Refusal<'_>> {
         match self.kind {
-            Kind::Begin => self.begin_refusals(),
-            Kind::CreateL1 | Kind::CreateL2 => self.create_refusals(),
-            Kind::FreeL1 | Kind::FreeL2 => self.free_refusals(),
-            Kind::MapL1 | Kind::MapL2 | Kind::MapLarge => self.map_refusals(),
-            Kind::Link => self.link_refusals(),
-            Kind::UnmapL1 | Kind::UnmapL2 | Kind::UnmapLarge => self.unmap_refusals(),
-            Kind::Switch => self.switch_refusals(),
-            Kind::Read | Kind::Write | Kind::Fetch => self.guest_refusals(),
-            Kind::Forget => self.forget_refusals(),
+            Begin | BeginKinds => self.begin_refusals(),
+            CreateL1 | CreateL2 => self.create_refusals(),
+            FreeL1 | FreeL2 => self.free_refusals(),
+            MapL1 | MapL2 | MapLarge | MapL1Kind | MapL2Kind | MapLargeKind => self.map_refusals(),
+            Link => self.link_refusals(),
+            UnmapL1 | UnmapL2 | UnmapLarge => self.unmap_refusals(),
+            Switch => self.switch_refusals(),
+            Read | Write | Fetch => self.guest_refusals(),
+            Forget => self.forget_refusals(),
         }
     }
 
     /// calls 4
     fn leave(&self, outcome: &mut Outcome) {
         match self.kind {
-            Kind::Begin => self.begin_leaves(outcome),
-            Kind::CreateL1 | Kind::CreateL2 => self.create_leaves(outcome),
-            Kind::FreeL1 | Kind::FreeL2 => self.free_leaves(outcome),
-            Kind::MapL1 | Kind::MapL2 | Kind::MapLarge => self.map_leaves(outcome),
-            Kind::Link => self.link_leaves(outcome),
-            Kind::UnmapL1 | Kind::UnmapL2 | Kind::UnmapLarge => self.unmap_leaves(outcome),
-            Kind::Switch => self.switch_leaves(outcome),
-            Kind::Read | Kind::Fetch => self.guest_byte(outcome),
-            Kind::Write => self.guest_leaves(outcome),
-            Kind::Forget => self.forget_leaves(outcome),
+            Begin | BeginKinds => self.begin_leaves(outcome),
+            CreateL1 | CreateL2 => self.create_leaves(outcome),
+            FreeL1 | FreeL2 => self.free_leaves(outcome),
+            MapL1 | MapL2 | MapLarge | MapL1Kind | MapL2Kind | MapLargeKind => self.map_leaves(outcome),
+            Link => self.link_leaves(outcome),
+            UnmapL1 | UnmapL2 | UnmapLarge => self.unmap_leaves(outcome),
+            Switch => self.switch_leaves(outcome),
+            Read | Fetch => self.guest_byte(outcome),
+            Write => self.guest_leaves(outcome),
+            Forget => self.forget_leaves(outcome),
         }
     }
 
     /// The level of the table that the call names.
     fn level(&self) -> Level {
         match self.kind {
-            Kind::CreateL2 | Kind::FreeL2 | Kind::MapL2 | Kind::UnmapL2 | Kind::MapLarge | Kind::UnmapLarge => {
-                Level::L2
-            }
+            CreateL2 | FreeL2 | MapL2Kind | UnmapL2 | MapLargeKind | UnmapLarge => Level::L2,
             _ => Level::L1,
         }
     }

@@ -18,7 +18,7 @@ pub(super) use refusals;
 impl View<'_> {
     /// refusal 1, but for the golden image
     pub fn region_wrong(&self) -> bool {
-        self.memory_wrong() || self.ledger_wrong() || self.first_wrong()
+        self.memory_wrong() || self.ledger_wrong() || self.first_wrong() || self.kinds_wrong()
     }
 
     /// The blocks of the table that the call names.

@@ -17,7 +17,7 @@ impl View<'_> {
 
     /// B (ledger 2), in begin the one that it is given (begin 1).
     pub fn first(&self) -> u64 {
-        u64::from(if self.kind == Kind::Begin { self.arguments[0] } else { word(self.ledger, 0) })
+        u64::from(if self.kind == Kind::BeginKinds { self.arguments[0] } else { word(self.ledger, 0) })
     }
 
     /// memory 2, broken.

@@ -3,7 +3,8 @@ use super::entries::{Entry, Level, Place};
 use super::ledger::{record_word, ACTIVE, D, L, L2, MARK, TYPE, W, X};
 use super::refusals::{refusals, Refusal};
 use super::View;
-use crate::monitor::NO_TABLE;
+use crate::bytes::word;
+use crate::monitor::{KINDS_AT, KINDS_BYTES, NO_TABLE};
 use crate::outcome::Outcome;
 use std::collections::BTreeSet;
 
@@ -16,6 +17,7 @@ impl View<'_> {
     /// begin leaves
     pub fn begin_leaves(&self, outcome: &mut Outcome) {
         outcome.ledger.extend([(0, self.arguments[0]), (ACTIVE, NO_TABLE)]);
+        outcome.ledger.extend((0..KINDS_BYTES).step_by(4).map(|at| (KINDS_AT + at, word(self.kinds(), at))));
         for position in 0..self.blocks() as usize {
             outcome.ledger.extend([TYPE, W, X, L, MARK].map(|which| (record_word(position, which), 0)));
         }

@@ -1,5 +1,5 @@
 //! The readable lines.
-use calls::{Call, Kind, NUMBERS};
+use calls::{Call, Kind, RECORD_WORDS};
 
 /// A line of a script.
 pub struct Line<'a> {
@@ -65,7 +65,7 @@ fn call(written: &str) -> Result<Call, String> {
 /// What stands behind the bar.
 fn spare_words(kind: Kind, written: &str) -> Result<Vec<u32>, String> {
     let (words, name) = (numbers(written)?, kind.name());
-    match NUMBERS - kind.arity() {
+    match RECORD_WORDS.saturating_sub(kind.arity()) {
         0 => Err(format!("{name} has no spare words")),
         room if words.is_empty() || words.len() > room => {
             Err(format!("{name} has {} spare words behind the bar, not 1 to {room}", words.len()))
