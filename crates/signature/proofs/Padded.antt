@@ -5,10 +5,10 @@ use Prim.Native.Nat.{ℕ, suc, _+_, _-_, _*_, _/_, _%_, _^_, _<_, _≤_}
 use native.Mathlib.Omega.{arith}
 use lib.ListN.{length, getD, take, drop, replicate, length-append, length-drop, length-replicate, getD-replicate, List·getD-append}
 use lib.Pow.{field, mod-mod-pow}
-use lib.Seq.{getD-append-add, getD-append-seam, drop-append-le, take-append-le}
+use lib.Seq.{getD-append-add, getD-append-seam, drop-append-le, drop-append-add, take-append-le}
 use Rattle.words.specs.Lists.{part}
 use Rattle.words.proofs.Lists.{length-tabulate, getD-tabulate}
-use Rattle.signature.specs.Sha256.{bigEndian, zeros, padded}
+use Rattle.signature.specs.Sha256.{bigEndian, bigEndianByte, zeros, padded}
 
 pub length-padded : (m : List ℕ) → length (padded m) ≡ length m + 9 + zeros (length m)
 unfolding padded bigEndian
@@ -54,15 +54,33 @@ low-byte v k h =
     let a : 64 ≡ (56 - k + 8) + k = omega arith in
     ap (λ (n : ℕ). v % 2 ^ n / 2 ^ k % 2 ^ 8) a ∙ ap (λ (n : ℕ). n % 2 ^ 8) (field v (56 - k + 8) k) ∙ mod-mod-pow (v / 2 ^ k) (56 - k) 8
 
-pub length-byte : (n j : ℕ) → j < 8 → 8 * (n % 2 ^ 61) / 2 ^ (8 * (7 - j)) % 2 ^ 8 ≡ getD (bigEndian 8 (8 * n)) j 0
-unfolding bigEndian
+pub length-byte : (n j : ℕ) → j < 8 → bigEndianByte 8 (8 * (n % 2 ^ 61)) j ≡ getD (bigEndian 8 (8 * n)) j 0
+unfolding bigEndian bigEndianByte
 length-byte n j h =
     let e : 8 * (n % 2 ^ 61) ≡ 8 * n % 2 ^ 64 = omega arith in
     ap (λ (v : ℕ). v / 2 ^ (8 * (7 - j)) % 2 ^ 8) e ∙ low-byte (8 * n) (8 * (7 - j)) (omega arith) ∙ sym (getD-tabulate _ 8 j h)
 
--- a part that lies in the message is read there
-pub part-padded : (m : List ℕ) (a n : ℕ) → a + n ≤ length m → part (padded m) a n ≡ take (a + n - a) (drop a m)
+-- a part that lies in the message
+part-padded : (m : List ℕ) (a n : ℕ) → a + n ≤ length m → part (padded m) a n ≡ part m a n
 unfolding part padded
 part-padded m a n h =
-    let e : a + n - a ≡ n = omega arith in
-    rw (e, drop-append-le a m _ (omega arith)) (take-append-le n (drop a m) _ (simp length-drop (omega arith)))
+    rw (drop-append-le a m _ (omega arith)) (take-append-le n (drop a m) _ (simp length-drop (omega arith)))
+
+-- A message in two pieces
+module _ (head body : List ℕ) where
+  pub length-joined : length (padded (head ++ body)) ≡ length head + length body + 9 + zeros (length head + length body)
+  length-joined = rw (← (length-append head body)) (length-padded (head ++ body))
+
+  -- behind the head comes the body
+  behind-head : (i : ℕ) → length head ≤ i → i ≡ length head + (i - length head)
+  behind-head i h = omega arith
+
+  pub joined-body : (i : ℕ) → length head ≤ i → getD (head ++ body) i 0 ≡ getD body (i - length head) 0
+  joined-body i h = ap (λ (k : ℕ). getD (head ++ body) k 0) (behind-head i h) ∙ getD-append-add head body (i - length head) 0
+
+  -- a part that lies in the body is read there
+  pub part-joined : (a n : ℕ) → length head ≤ a → a - length head + n ≤ length body → part (padded (head ++ body)) a n ≡ part body (a - length head) n
+  unfolding part
+  part-joined a n h l =
+      part-padded (head ++ body) a n (rw (length-append head body) (omega arith)) ∙
+      ap (take n) (ap (λ (k : ℕ). drop k (head ++ body)) (behind-head a h) ∙ drop-append-add head body (a - length head))

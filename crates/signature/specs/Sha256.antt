@@ -76,9 +76,13 @@ rootFraction e p = rootFrom e (p * 2 ^ (32 * e)) 40 0 % 2 ^ 32
 unfoldable pub K : List ℕ
 K = map (rootFraction 3) primes
 
--- signature 1: FIPS 180-4, 3.1, v as n bytes, the highest first; bits of v above these are dropped
+-- signature 1: FIPS 180-4, 3.1, byte i of v as n bytes, the highest first; bits of v above these are dropped
+unfoldable pub bigEndianByte : ℕ → ℕ → ℕ → ℕ
+bigEndianByte n v i = v / 2 ^ (8 * (n - 1 - i)) % 2 ^ 8
+
+-- signature 1: FIPS 180-4, 3.1, v as n bytes
 unfoldable pub bigEndian : ℕ → ℕ → List ℕ
-bigEndian n v = tabulate (λ i. v / 2 ^ (8 * (n - 1 - i)) % 2 ^ 8) n
+bigEndian n v = tabulate (bigEndianByte n v) n
 
 -- signature 1: FIPS 180-4, 5.1.1, how many bytes 0 a message of l bytes needs between 0x80 and its length
 abbrev pub zeros : ℕ → ℕ
@@ -136,9 +140,9 @@ hashes m (suc i) = compress (hashes m i) (schedule (part m (64 * i) 64) 64)
 unfoldable pub hash : List ℕ → List ℕ
 hash m = hashes (padded m) (length (padded m) / 64)
 
--- signature 1: FIPS 180-4, 6.2.2, byte i of the digest, i below 32: the words of the hash value in order, the highest byte of each first
+-- signature 1: FIPS 180-4, 6.2.2, byte i of the digest, i below 32: the words of the hash value in order, each as 4 bytes
 unfoldable pub digestByte : List ℕ → ℕ → ℕ
-digestByte h i = getD h (i / 4) 0 / 2 ^ (8 * (3 - i % 4)) % 2 ^ 8
+digestByte h i = bigEndianByte 4 (getD h (i / 4) 0) (i % 4)
 
 -- signature 1, signature 5: FIPS 180-4, 6.2, the digest of a message, 32 bytes
 unfoldable pub sha256 : List ℕ → List ℕ

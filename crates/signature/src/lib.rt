@@ -1,4 +1,5 @@
 // The signature of a block: SHA-256 (FIPS 180-4), and the search of a golden image.
+mod bytes;
 mod compress;
 mod constants;
 pub mod digest;

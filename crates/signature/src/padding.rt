@@ -1,5 +1,8 @@
-// The padded message (FIPS 180-4, 5.1.1), byte by byte and block by block: whole blocks of the message are read where they lie.
+// The padded message (FIPS 180-4, 5.1.1), byte by byte and block by block. The message is lent in two pieces, a head of a few bytes and a body that
+// lies elsewhere: what is said of it is said of both, joined. Whole blocks of the body are read where they lie.
+use crate::bytes::big_endian_byte;
 use crate::schedule::schedule_of;
+ghost use mathlib.Core.List.{_++_};
 ghost use mathlib.Core.Path.{_≡_};
 ghost use Prim.Native.Nat.{_+_, _*_, _^_, _<_, _≤_};
 ghost use lib.ListN.{length, getD};
@@ -13,7 +16,7 @@ fn zeros_after(n: usize) -> usize
 }
 
 pub fn padded_length(n: usize) -> usize
-    requires { ⌜ n < 2 ^ 63 ⌝ }
+    requires { ⌜ n < 2 ^ 63 + 64 ⌝ }
     ensures { λ r. ⌜ r ≡ n + 9 + zeros n ⌝ }
 {
     n + 9 + zeros_after(n)
@@ -25,16 +28,27 @@ fn length_byte(n: usize, j: usize) -> u8
     ensures { λ r. ⌜ r ≡ getD (bigEndian 8 (8 * n)) j 0 ⌝ }
 {
     let bits = 8 * (n % 0x2000_0000_0000_0000);
-    ((bits >> (8 * (7 - j))) % 256) as u8
+    big_endian_byte(8, bits, j)
 }
 
-fn padded_byte(m: &[u8], i: usize) -> u8
-    requires { ⌜ i < length (padded (now m)) ⌝ }
-    ensures { λ r. ⌜ r ≡ getD (padded (now (m .entry))) i 0 ⌝ }
+fn message_byte(head: &[u8], body: &[u8], i: usize) -> u8
+    requires { ⌜ i < length (now head ++ now body) ⌝ }
+    ensures { λ r. ⌜ r ≡ getD (now (head .entry) ++ now (body .entry)) i 0 ⌝ }
 {
-    let n = m.len();
+    let q = head.len();
+    if i < q {
+        return head[i];
+    }
+    body[i - q]
+}
+
+fn padded_byte(head: &[u8], body: &[u8], i: usize) -> u8
+    requires { ⌜ (length (now head) ≤ 64) × (i < length (padded (now head ++ now body))) ⌝ }
+    ensures { λ r. ⌜ r ≡ getD (padded (now (head .entry) ++ now (body .entry))) i 0 ⌝ }
+{
+    let n = head.len() + body.len();
     if i < n {
-        return m[i];
+        return message_byte(head, body, i);
     }
     if i == n {
         return 0x80;
@@ -46,26 +60,31 @@ fn padded_byte(m: &[u8], i: usize) -> u8
     length_byte(n, i - e)
 }
 
-fn padded_block(m: &[u8], a: usize) -> [u8; 64]
-    requires { ⌜ a + 64 ≤ length (padded (now m)) ⌝ }
-    ensures { λ r. ⌜ r ≡ part (padded (now (m .entry))) a 64 ⌝ }
+fn padded_block(head: &[u8], body: &[u8], a: usize) -> [u8; 64]
+    requires { ⌜ (length (now head) ≤ 64) × (a + 64 ≤ length (padded (now head ++ now body))) ⌝ }
+    ensures { λ r. ⌜ r ≡ part (padded (now (head .entry) ++ now (body .entry))) a 64 ⌝ }
 {
     let mut b = [0u8; 64];
     for i in 0..64 {
-        b[i] = padded_byte(m, a + i);
+        b[i] = padded_byte(head, body, a + i);
     }
     b
 }
 
-pub fn block_schedule(m: &[u8], k: usize) -> [u32; 64]
-    requires { ⌜ 64 * k + 64 ≤ length (padded (now m)) ⌝ }
-    ensures { λ r. ⌜ r ≡ schedule (part (padded (now (m .entry))) (64 * k) 64) 64 ⌝ }
+// Block k lies in the body if neither the head nor the padding reaches into it.
+pub fn block_schedule(head: &[u8], body: &[u8], k: usize) -> [u32; 64]
+    requires { ⌜ (length (now head) ≤ 64) × (64 * k + 64 ≤ length (padded (now head ++ now body))) ⌝ }
+    ensures { λ r. ⌜ r ≡ schedule (part (padded (now (head .entry) ++ now (body .entry))) (64 * k) 64) 64 ⌝ }
 {
     let a = 64 * k;
-    let e = a + 64;
-    if e <= m.len() {
-        return schedule_of(&m[a..e]);
+    let q = head.len();
+    if q <= a {
+        let s = a - q;
+        let e = s + 64;
+        if e <= body.len() {
+            return schedule_of(&body[s..e]);
+        }
     }
-    let b = padded_block(m, a);
+    let b = padded_block(head, body, a);
     schedule_of(&b)
 }

@@ -1,5 +1,5 @@
--- The shift and the remainder are those of the definition.
-use mathlib.Core.Path.{refl}
+-- A byte of the digest is a byte of a word.
+use native.Mathlib.Omega.{arith}
 use borrow.Author.Needs.{needs}
 use Rattle.signature.specs.Sha256.{digestByte}
 use Rattle.signature.proofs.digest.digest_byte.Statement.{statement}
@@ -7,7 +7,7 @@ use Rattle.signature.proofs.digest.digest_byte.Tie as tie
 
 returns : tie.Need-returns
 unfolding digestByte
-returns c = refl
+returns c = c .word-byte .ensures
 
 pub digest-byte-spec : {M : Type 1} → statement M
 digest-byte-spec =
@@ -15,9 +15,5 @@ digest-byte-spec =
     (tie.spec
     (search needs)
     (search needs)
-    (search needs)
-    (search needs)
-    (search needs)
-    (search needs)
-    (search needs)
+    (λ c κs. omega arith)
     returns)

@@ -1,26 +1,29 @@
 -- The invariant: the hash value is that of the first i blocks.
 use mathlib.Core.Path.{_≡_}
+use mathlib.Core.List.{_++_}
 use Prim.Native.Nat.{_≤_, _-_, _/_}
 use native.Mathlib.Omega.{arith}
 use lib.ListN.{length}
 use Rattle.signature.specs.Sha256.{padded, hashes, hash}
 use Rattle.signature.proofs.Computation.{hashes-turn}
-use Rattle.signature.proofs.Padded.{length-padded}
+use Rattle.signature.proofs.Padded.{length-joined}
 use Rattle.signature.proofs.digest.hash_of.Statement.{statement}
 use Rattle.signature.proofs.digest.hash_of.Tie as tie
 
 abbrev Inv-loop : tie.InvT-loop
-Inv-loop m n constants h₀ k₀ h k = (k ≤ n) × (h ≡ hashes (padded m) k)
+Inv-loop head body n constants h₀ k₀ h k = (k ≤ n) × (h ≡ hashes (padded (head ++ body)) k)
 
 abbrev μ-loop : tie.MeasureT-loop
-μ-loop m n constants h₀ k₀ h k = n - k
+μ-loop head body n constants h₀ k₀ h k = n - k
 
 loop-holds : tie.Need-loop-holds Inv-loop μ-loop
 unfolding hashes
 loop-holds c = (omega arith, c .initial-hash .ensures)
 
 block-schedule-requires : tie.Need-block-schedule-requires Inv-loop μ-loop
-block-schedule-requires c κs = omega (arith, length-padded (c .before .before .before .before .before .before .args .m .now))
+block-schedule-requires c κs =
+    let a = c .before .before .before .before .before .before .before .args in
+    (c .before .before .before .before .before .before .before .pre, omega (arith, length-joined (a .head .now) (a .body .now)))
 
 loop-again : tie.Need-loop-again Inv-loop μ-loop
 loop-again c =
@@ -30,8 +33,8 @@ loop-again c =
 returns : tie.Need-returns Inv-loop μ-loop
 unfolding hash
 returns c =
-    let m = c .before .before .before .before .before .before .args .m .now in
-    let e : c .before .loop .k ≡ length (padded m) / 64 = omega (arith, length-padded m) in
+    let a = c .before .before .before .before .before .before .before .args in
+    let e : c .before .loop .k ≡ length (padded (a .head .now ++ a .body .now)) / 64 = omega (arith, length-joined (a .head .now) (a .body .now)) in
     rw e at (c .before .loop .inv .1)
 
 pub hash-of-spec : {M : Type 1} → statement M
@@ -40,6 +43,7 @@ hash-of-spec =
     (tie.spec
     Inv-loop
     μ-loop
+    (λ c. omega arith)
     (λ c κs. omega arith)
     (λ c κs. tt)
     (λ c κs. tt)
