@@ -45,7 +45,7 @@ pub fn is_signed_block(memory: &[u8], golden: &[u8], first: u32, p: u32) -> bool
     ensures { λ r. ⌜ r ≡ signedBlock (now (golden .entry)) first (now (memory .entry)) p ⌝ }
 {
     let b = (p - first) as usize;
-    is_signed_at(memory, BLOCK_BYTES * b, golden)
+    is_signed_at(memory, BLOCK_BYTES * b, golden, p)
 }
 
 // Block p of the region is neither marked nor signed. A marked block is not hashed.

@@ -17,8 +17,7 @@ use Rattle.words.specs.Bounded.{above, neqb, any, num}
 use Rattle.words.proofs.Bounded.{below-or-above, any-avoids, same}
 use Rattle.words.proofs.Lists.{length-tabulate}
 use Rattle.signature.specs.Sha256.{digestByte, hash, sha256}
-use Rattle.signature.specs.Signed.{digestBytes, agrees, listed, signed}
-use Rattle.signature.specs.Signed.{misfitImage}
+use Rattle.signature.specs.Signed.{digestBytes, agrees, blockDigest, blockMessage, listed, misfitImage, signed}
 use Rattle.entries.specs.Entries.{Entry, fault, Level, l1, l2, entryAt, l1Entry, l2Entry, isUnaccepted, isLink, rights, placeBlocks, coverBlocks, isLarge}
 use Rattle.entries.specs.Rights.{allows}
 use Rattle.entries.proofs.RoundTrip.{readWrite}
@@ -96,22 +95,22 @@ module _ {h : Told} {s : Store} (r : Running h s) (blank : Blank (s .memory)) wh
 
 -- Eight blocks of zeros, and the digest of one of them as golden image
 
-signed-by-own-digest : (block : List ℕ) → signed block (sha256 block) ≡ true
-unfolding signed listed agrees sha256 any
-signed-by-own-digest block =
-    let d = sha256 block in
-    rw (length-tabulate (digestByte (hash block)) 32) (ap not (any-avoids (λ j. neqb (getD d j 0) (getD d (digestBytes * 0 + j) 0)) digestBytes (λ j l. same (getD d j 0) (getD d (0 + j) 0) (ap (λ (k : ℕ). getD d k 0) (sym (zero-add j))))))
+signed-by-own-digest : (p : ℕ) (block : List ℕ) → signed p block (blockDigest p block) ≡ true
+unfolding signed blockDigest listed agrees sha256 any
+signed-by-own-digest p block =
+    let d = blockDigest p block in
+    rw (length-tabulate (digestByte (hash (blockMessage p block))) 32) (ap not (any-avoids (λ j. neqb (getD d j 0) (getD d (digestBytes * 0 + j) 0)) digestBytes (λ j l. same (getD d j 0) (getD d (0 + j) 0) (ap (λ (k : ℕ). getD d k 0) (sym (zero-add j))))))
 
 abbrev pub golden : List ℕ
-golden = sha256 (contents (memory 0) 5)
+golden = blockDigest 5 (contents (memory 0) 5)
 
 pub lawful : misfitImage golden ≡ false
-unfolding misfitImage sha256
-lawful = rw (length-tabulate (digestByte (hash (contents (memory 0) 5))) 32) refl
+unfolding misfitImage blockDigest sha256
+lawful = rw (length-tabulate (digestByte (hash (blockMessage 5 (contents (memory 0) 5)))) 32) refl
 
 pub page-signed : signedBlock golden 0 (memory 0) 5 ≡ true
 unfolding signedBlock
-page-signed = signed-by-own-digest (contents (memory 0) 5)
+page-signed = signed-by-own-digest 5 (contents (memory 0) 5)
 
 pub begins-zeros : beginOutcome (smallStore 0 ledger) cachedKinds 0 .answer ≡ 0
 unfolding beginOutcome unlawfulKinds any kindAt half

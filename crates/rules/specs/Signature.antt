@@ -15,9 +15,10 @@ imageRefusals golden = 1 if misfitImage golden ∷ []
 abbrev pub contents : List ℕ → ℕ → List ℕ
 contents memory b = part memory (blockBytes * b) blockBytes
 
--- signature 3: block p of a memory that begins at block B is signed; outside the region this says nothing (below B, p - B is 0), and 10 comes first
+-- signature 3, signature 6: block p of a memory that begins at block B is signed, by its number and contents; outside the region this says nothing (below B,
+-- p - B is 0), and 10 comes first
 unfoldable pub signedBlock : List ℕ → ℕ → List ℕ → ℕ → Bool
-signedBlock golden B memory p = signed (contents memory (p - B)) golden
+signedBlock golden B memory p = signed p (contents memory (p - B)) golden
 
 -- create 12, map 12: block p is neither marked nor signed
 unfoldable pub unknown : List ℕ → Store → ℕ → Bool

@@ -1,3 +1,4 @@
 pub mod Computation
 pub mod Padded
+pub mod Places
 pub mod Search

@@ -1,10 +1,11 @@
--- Golden images, and the contents that one signs (RULES: signature, refusal).
+-- Golden images, and what one signs: contents in their place (RULES: signature, refusal).
+use mathlib.Core.Path.{_≡_}
 use mathlib.Core.Bool.{Bool, not, _||_}
-use mathlib.Core.List.{List}
-use Prim.Native.Nat.{ℕ, _+_, _*_, _/_, _%_}
+use mathlib.Core.List.{List, _++_}
+use Prim.Native.Nat.{ℕ, _+_, _*_, _/_, _%_, _^_, _<_}
 use lib.ListN.{length, getD}
 use Rattle.words.specs.Bounded.{above, any, neqb}
-use Rattle.signature.specs.Sha256.{sha256}
+use Rattle.signature.specs.Sha256.{bigEndian, sha256}
 
 -- memory 1, signature 1: the bytes of a block
 abbrev pub blockBytes : ℕ
@@ -18,6 +19,10 @@ digestBytes = 32
 abbrev pub mostDigests : ℕ
 mostDigests = 1024
 
+-- signature 1: the bytes in which a block's number stands before its contents
+abbrev pub numberBytes : ℕ
+numberBytes = 4
+
 -- refusal 1, signature 2: the image is no whole number of digests, or has too many
 unfoldable pub misfitImage : List ℕ → Bool
 misfitImage golden = neqb (length golden % digestBytes) 0 || above (length golden / digestBytes) mostDigests
@@ -30,6 +35,19 @@ agrees d golden k n = not (any n (λ j. neqb (getD d j 0) (getD golden (digestBy
 unfoldable pub listed : List ℕ → List ℕ → Bool
 listed d golden = any (length golden / digestBytes) (λ k. agrees d golden k digestBytes)
 
--- signature 3, signature 5: the image has the digest of these bytes
-unfoldable pub signed : List ℕ → List ℕ → Bool
-signed block golden = listed (sha256 block) golden
+-- signature 1: what is hashed for block p: its number, the highest byte first, and its contents
+unfoldable pub blockMessage : ℕ → List ℕ → List ℕ
+blockMessage p contents = bigEndian numberBytes p ++ contents
+
+-- signature 6: two blocks have the same message only if number and contents are the same; numbers are words
+abbrev pub MessagesApart : Type 0
+MessagesApart =
+    (p q : ℕ) (x y : List ℕ) → p < 2 ^ 32 → q < 2 ^ 32 → blockMessage p x ≡ blockMessage q y → (p ≡ q) × (x ≡ y)
+
+-- signature 1, signature 5: the digest of block p with these contents
+unfoldable pub blockDigest : ℕ → List ℕ → List ℕ
+blockDigest p contents = sha256 (blockMessage p contents)
+
+-- signature 3, signature 5: the image has the digest of block p with these contents
+unfoldable pub signed : ℕ → List ℕ → List ℕ → Bool
+signed p contents golden = listed (blockDigest p contents) golden

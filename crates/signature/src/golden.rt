@@ -1,10 +1,11 @@
-// The golden image: its length, and the search for the digest of a block.
-use crate::digest::sha_256;
+// The digest of a block in its place, and the golden image: its length, and the search for a digest.
+use crate::bytes::word_bytes;
+use crate::digest::joined_sha_256;
 ghost use mathlib.Core.Path.{_≡_};
 ghost use Prim.Native.Nat.{_+_, _≤_};
 ghost use lib.ListN.{length};
 ghost use Rattle.words.specs.Lists.{part};
-ghost use Rattle.signature.specs.Signed.{blockBytes, listed, misfitImage, signed};
+ghost use Rattle.signature.specs.Signed.{blockBytes, blockDigest, listed, misfitImage, signed};
 
 pub const BLOCK_BYTES: usize = 4096;
 
@@ -40,17 +41,25 @@ fn is_listed(d: [u8; 32], golden: &[u8]) -> bool
     found
 }
 
-pub fn is_signed(block: &[u8], golden: &[u8]) -> bool
-    ensures { λ r. ⌜ r ≡ signed (now (block .entry)) (now (golden .entry)) ⌝ }
+// The digest of block p. Its number stands apart from the contents, which stay where they are.
+pub fn block_digest(contents: &[u8], p: u32) -> [u8; 32]
+    ensures { λ r. ⌜ r ≡ blockDigest p (now (contents .entry)) ⌝ }
 {
-    is_listed(sha_256(block), golden)
+    let number = word_bytes(p);
+    joined_sha_256(&number, contents)
 }
 
-// The block of the memory that starts at byte a is signed.
-pub fn is_signed_at(memory: &[u8], a: usize, golden: &[u8]) -> bool
+pub fn is_signed(contents: &[u8], golden: &[u8], p: u32) -> bool
+    ensures { λ r. ⌜ r ≡ signed p (now (contents .entry)) (now (golden .entry)) ⌝ }
+{
+    is_listed(block_digest(contents, p), golden)
+}
+
+// Block p is signed, with the contents that start at byte a of the memory.
+pub fn is_signed_at(memory: &[u8], a: usize, golden: &[u8], p: u32) -> bool
     requires { ⌜ a + blockBytes ≤ length (now memory) ⌝ }
-    ensures { λ r. ⌜ r ≡ signed (part (now (memory .entry)) a blockBytes) (now (golden .entry)) ⌝ }
+    ensures { λ r. ⌜ r ≡ signed p (part (now (memory .entry)) a blockBytes) (now (golden .entry)) ⌝ }
 {
     let e = a + BLOCK_BYTES;
-    is_signed(&memory[a..e], golden)
+    is_signed(&memory[a..e], golden, p)
 }

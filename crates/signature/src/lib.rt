@@ -1,4 +1,4 @@
-// The signature of a block: SHA-256 (FIPS 180-4), and the search of a golden image.
+// The signature of a block in its place: SHA-256 (FIPS 180-4), and the search of a golden image.
 mod bytes;
 mod compress;
 mod constants;
@@ -10,7 +10,7 @@ mod schedule;
 
 ghost use mathlib.Core.Path.{_≡_};
 ghost use Rattle.signature.specs.Sha256.{sha256};
-ghost use Rattle.signature.specs.Signed.{signed};
+ghost use Rattle.signature.specs.Signed.{blockDigest, signed};
 
 // For C and Rust: the digest of a message.
 #[no_mangle]
@@ -21,10 +21,19 @@ pub extern "C" fn signature_sha256(message: &[u8], digest: &mut [u8; 32])
     *digest = d;
 }
 
-// For C and Rust: is the block's digest among those of the golden image?
+// For C and Rust: the digest of block p with these contents.
 #[no_mangle]
-pub extern "C" fn signature_is_signed(block: &[u8], golden: &[u8]) -> bool
-    ensures { λ r. ⌜ r ≡ signed (now (block .entry)) (now (golden .entry)) ⌝ }
+pub extern "C" fn signature_block_digest(contents: &[u8], p: u32, digest: &mut [u8; 32])
+    ensures { λ r. ⌜ now (digest .exit) ≡ blockDigest p (now (contents .entry)) ⌝ }
 {
-    golden::is_signed(block, golden)
+    let d = golden::block_digest(contents, p);
+    *digest = d;
+}
+
+// For C and Rust: is this digest among those of the golden image?
+#[no_mangle]
+pub extern "C" fn signature_is_signed(contents: &[u8], golden: &[u8], p: u32) -> bool
+    ensures { λ r. ⌜ r ≡ signed p (now (contents .entry)) (now (golden .entry)) ⌝ }
+{
+    golden::is_signed(contents, golden, p)
 }

@@ -6,10 +6,10 @@ use Rattle.vectors.proofs.print_digest.Statement.{statement}
 use Rattle.vectors.proofs.print_digest.Tie as tie
 
 abbrev Inv-loop : tie.InvT-loop
-Inv-loop name message d i₀ t6 i = i ≤ 32
+Inv-loop name d i₀ t6 i = i ≤ 32
 
 abbrev μ-loop : tie.MeasureT-loop
-μ-loop name message d i₀ t6 i = 32 - i
+μ-loop name d i₀ t6 i = 32 - i
 
 pub print-digest-spec : {M : Type 1} → statement M
 print-digest-spec =
@@ -17,7 +17,6 @@ print-digest-spec =
     (tie.spec
     Inv-loop
     μ-loop
-    (λ c κs. tt)
     (λ c κs. tt)
     (search needs)
     (λ c κs. tt)
