@@ -44,8 +44,8 @@ pub fn is_signed_block(memory: &[u8], golden: &[u8], first: u32, p: u32) -> bool
     requires { ⌜ (first ≤ p) × (blockBytes * (p - first + 1) ≤ length (now memory)) ⌝ }
     ensures { λ r. ⌜ r ≡ signedBlock (now (golden .entry)) first (now (memory .entry)) p ⌝ }
 {
-    let b = (p - first) as usize;
-    is_signed_at(memory, BLOCK_BYTES * b, golden, p)
+    let b = p - first;
+    is_signed_at(memory, BLOCK_BYTES * b as usize, golden, p)
 }
 
 // Block p of the region is neither marked nor signed. A marked block is not hashed.

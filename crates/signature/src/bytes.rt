@@ -21,9 +21,10 @@ pub fn word_byte(v: u32, i: usize) -> u8
 pub fn word_bytes(v: u32) -> [u8; 4]
     ensures { λ r. ⌜ r ≡ bigEndian 4 v ⌝ }
 {
-    let mut b = [0u8; 4];
-    for i in 0..4 {
-        b[i] = word_byte(v, i);
-    }
-    b
+    [
+        word_byte(v, 0),
+        word_byte(v, 1),
+        word_byte(v, 2),
+        word_byte(v, 3),
+    ]
 }

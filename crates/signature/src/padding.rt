@@ -43,7 +43,7 @@ fn message_byte(head: &[u8], body: &[u8], i: usize) -> u8
 }
 
 fn padded_byte(head: &[u8], body: &[u8], i: usize) -> u8
-    requires { ⌜ (length (now head) ≤ 64) × (i < length (padded (now head ++ now body))) ⌝ }
+    requires { ⌜ (length (now head) + length (now body) < 2 ^ 63 + 64) × (i < length (padded (now head ++ now body))) ⌝ }
     ensures { λ r. ⌜ r ≡ getD (padded (now (head .entry) ++ now (body .entry))) i 0 ⌝ }
 {
     let n = head.len() + body.len();
@@ -61,7 +61,7 @@ fn padded_byte(head: &[u8], body: &[u8], i: usize) -> u8
 }
 
 fn padded_block(head: &[u8], body: &[u8], a: usize) -> [u8; 64]
-    requires { ⌜ (length (now head) ≤ 64) × (a + 64 ≤ length (padded (now head ++ now body))) ⌝ }
+    requires { ⌜ (length (now head) + length (now body) < 2 ^ 63 + 64) × (a + 64 ≤ length (padded (now head ++ now body))) ⌝ }
     ensures { λ r. ⌜ r ≡ part (padded (now (head .entry) ++ now (body .entry))) a 64 ⌝ }
 {
     let mut b = [0u8; 64];
@@ -73,7 +73,7 @@ fn padded_block(head: &[u8], body: &[u8], a: usize) -> [u8; 64]
 
 // Block k lies in the body if neither the head nor the padding reaches into it.
 pub fn block_schedule(head: &[u8], body: &[u8], k: usize) -> [u32; 64]
-    requires { ⌜ (length (now head) ≤ 64) × (64 * k + 64 ≤ length (padded (now head ++ now body))) ⌝ }
+    requires { ⌜ (length (now head) + length (now body) < 2 ^ 63 + 64) × (64 * k + 64 ≤ length (padded (now head ++ now body))) ⌝ }
     ensures { λ r. ⌜ r ≡ schedule (part (padded (now (head .entry) ++ now (body .entry))) (64 * k) 64) 64 ⌝ }
 {
     let a = 64 * k;
