@@ -80,7 +80,7 @@ int main(void)
     uint32_t hashed = 0;
 
     memset(memory + CODE * PAGEMON_BLOCK_BYTES, 0x1E, PAGEMON_BLOCK_BYTES); /* the code that is known to be good */
-    signature_sha256(memory + CODE * PAGEMON_BLOCK_BYTES, PAGEMON_BLOCK_BYTES, golden);
+    signature_block_digest(memory + CODE * PAGEMON_BLOCK_BYTES, PAGEMON_BLOCK_BYTES, CODE, golden);
     expect("begin", pagemon_begin(REGION, 0), 0);
     expect("create the L1 table", pagemon_create_l1(REGION, golden, sizeof golden, TABLE, &hashed), 0);
     expect("create the L2 block", pagemon_create_l2(REGION, golden, sizeof golden, PAGES, &hashed), 0);

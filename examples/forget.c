@@ -44,7 +44,7 @@ static void start(void)
 {
     memset(memory, 0, sizeof memory);
     memset(memory + CODE * PAGEMON_BLOCK_BYTES, GOOD, PAGEMON_BLOCK_BYTES);
-    signature_sha256(memory + CODE * PAGEMON_BLOCK_BYTES, PAGEMON_BLOCK_BYTES, golden);
+    signature_block_digest(memory + CODE * PAGEMON_BLOCK_BYTES, PAGEMON_BLOCK_BYTES, CODE, golden);
     failures += pagemon_begin(REGION, 0) || pagemon_create_l1(REGION, golden, sizeof golden, TABLE, &hashed)
                 || pagemon_create_l2(REGION, golden, sizeof golden, PAGES, &hashed) || pagemon_link(REGION, TABLE, 0, PAGES, 0)
                 || pagemon_switch(REGION, TABLE);

@@ -15,7 +15,7 @@
 #include <sys/mman.h>
 #include <unistd.h>
 
-enum { PAGE = 4096, CANARY = 0xC5, DIGESTS = 3 };
+enum { PAGE = 4096, CANARY = 0xC5, DIGESTS = 258 };
 
 /* A region with a section of data, and behind it tables, of which one lies in the last four blocks, and a page that is written. */
 enum { BLOCKS = 276, FIRST = 0x100, CODE = 0x108, DATA = 0x10A };
@@ -166,15 +166,28 @@ static void put_memory(uint8_t *memory)
     put_word(memory + MEMORY_BYTES - 4, 0x5A000000);
 }
 
-/* The digests of code and of zeros are the first and the last. */
+/* The digest of the code is the first, and those of zeros in the places of the region's first section are the last. */
+static void make_golden(uint8_t *golden)
+{
+    uint8_t content[PAGEMON_BLOCK_BYTES], *place = golden + GOLDEN_BYTES;
+    memset(content, 0x1E, sizeof content);
+    signature_block_digest(content, sizeof content, CODE, golden);
+    memset(content, 0, sizeof content);
+    for (uint32_t number = FIRST; number < FIRST + PAGEMON_SECTION_BLOCKS; number++) {
+        place -= PAGEMON_DIGEST_BYTES;
+        signature_block_digest(content, sizeof content, number, place);
+    }
+}
+
 static void put_golden(uint8_t *golden)
 {
-    uint8_t content[PAGEMON_BLOCK_BYTES];
-    memset(golden, 0, GOLDEN_BYTES);
-    memset(content, 0x1E, sizeof content);
-    signature_sha256(content, sizeof content, golden);
-    memset(content, 0, sizeof content);
-    signature_sha256(content, sizeof content, golden + GOLDEN_BYTES - PAGEMON_DIGEST_BYTES);
+    static uint8_t made[GOLDEN_BYTES];
+    static bool is_made;
+    if (!is_made) {
+        make_golden(made);
+        is_made = true;
+    }
+    memcpy(golden, made, sizeof made);
 }
 
 static void put_all(const struct buffers *b)
@@ -469,18 +482,23 @@ static void beside_untouchable_pages(void)
 
 static void digest_at(uint8_t *message, size_t length, uint8_t *place)
 {
-    uint8_t content[PAGEMON_BLOCK_BYTES + 1] = {0}, digest[SIGNATURE_DIGEST_BYTES] = {0};
+    uint8_t numbered[4 + PAGEMON_BLOCK_BYTES + 1] = {0, 0, CODE >> 8, CODE & 0xFF}, *content = numbered + 4, digest[SIGNATURE_DIGEST_BYTES] = {0};
     for (size_t i = 0; i < length; i++) {
         content[i] = (uint8_t)(length + 7 * i);
     }
-    trying = "signature_sha256 and signature_is_signed";
+    trying = "signature_sha256, signature_block_digest and signature_is_signed";
     signature_sha256(content, length, digest);
     memcpy(message, content, length);
     signature_sha256(message, length, place);
     expect(memcmp(place, digest, sizeof digest) == 0, "digest of a message of length", "signature_sha256", length);
-    expect(signature_is_signed(message, length, place, sizeof digest), "no signature of a message of length", "signature_is_signed", length);
+    expect(!signature_is_signed(message, length, place, sizeof digest, CODE), "a signature of no place, length", "signature_is_signed", length);
+    signature_sha256(numbered, 4 + length, digest);
+    signature_block_digest(message, length, CODE, place);
+    expect(memcmp(place, digest, sizeof digest) == 0, "digest of contents of length", "signature_block_digest", length);
+    expect(signature_is_signed(message, length, place, sizeof digest, CODE), "no signature of contents of length", "signature_is_signed", length);
+    expect(!signature_is_signed(message, length, place, sizeof digest, DATA), "a signature of another place, length", "signature_is_signed", length);
     place[0] ^= 1;
-    expect(!signature_is_signed(message, length, place, sizeof digest), "a signature of a message of length", "signature_is_signed", length);
+    expect(!signature_is_signed(message, length, place, sizeof digest, CODE), "a signature of contents of length", "signature_is_signed", length);
 }
 
 /* Messages and digests at the edges of pages and at odd addresses. */
@@ -702,8 +720,8 @@ static void long_image(void)
     uint8_t *image = long_room(FOUR_GIB + PAGE);
     const uint8_t message[3] = "abc";
     trying = "a long image";
-    signature_sha256(message, sizeof message, image);
-    expect(signature_is_signed(message, sizeof message, image, FOUR_GIB + PAGEMON_DIGEST_BYTES - 1), "not found", "a long image", 0);
+    signature_block_digest(message, sizeof message, UINT32_MAX, image);
+    expect(signature_is_signed(message, sizeof message, image, FOUR_GIB + PAGEMON_DIGEST_BYTES - 1, UINT32_MAX), "not found", "a long image", 0);
 }
 
 /* Buffers of length 0, whose pointer is NULL or must not be followed. */
@@ -751,9 +769,11 @@ static void empty_messages(const uint8_t *nowhere, const char *where)
     signature_sha256(digest, 0, expected);
     signature_sha256(nowhere, 0, digest);
     expect(memcmp(digest, expected, sizeof digest) == 0, "digest", where, 0);
-    expect(signature_is_signed(nowhere, 0, digest, sizeof digest), "the empty message's digest is not found", where, 0);
-    expect(!signature_is_signed(digest, sizeof digest, nowhere, 0), "a digest was found in an empty image", where, 0);
-    expect(!signature_is_signed(nowhere, 0, nowhere, 0), "a digest was found in an empty image", where, 1);
+    signature_block_digest(nowhere, 0, 0, digest);
+    expect(signature_is_signed(nowhere, 0, digest, sizeof digest, 0), "the digest of a number alone is not found", where, 0);
+    expect(!signature_is_signed(nowhere, 0, expected, sizeof expected, 0), "the empty message's digest was found", where, 0);
+    expect(!signature_is_signed(digest, sizeof digest, nowhere, 0, 0), "a digest was found in an empty image", where, 0);
+    expect(!signature_is_signed(nowhere, 0, nowhere, 0, 0), "a digest was found in an empty image", where, 1);
 }
 
 static void empty(uint8_t *nowhere, const char *where)

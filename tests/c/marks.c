@@ -69,7 +69,7 @@ static void start(void)
     memset(memory, 0, sizeof memory);
     memset(ledger, 0xFF, sizeof ledger);
     memset(block(CODE), 0x1E, PAGEMON_BLOCK_BYTES);
-    signature_sha256(block(CODE), PAGEMON_BLOCK_BYTES, golden);
+    signature_block_digest(block(CODE), PAGEMON_BLOCK_BYTES, CODE, golden);
     expect(pagemon_begin(REGION, FIRST) == PAGEMON_ACCEPTED, "begin");
     for (uint32_t number = FIRST; number < FIRST + BLOCKS; number++) {
         expect(mark(number) == 0, "a mark that begin left");

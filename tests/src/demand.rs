@@ -1,6 +1,6 @@
 //! Lists 7 to 12, 14 and 15, held against every step of a list by what is told alone (lists 4 to 6). The ledger is looked at only to compare its w, x
 //! and l and its kinds, and for its marks. Nothing is shared with the reference but SHA-256.
-use crate::hasher::digest;
+use crate::hasher::block_digest;
 use crate::monitor::{Call, Given, Kind, Store, BLOCK, KINDS_AT, LEDGER_HEAD, LEDGER_RECORD};
 use std::collections::BTreeSet;
 use std::fmt;
@@ -232,7 +232,7 @@ impl Told {
 
     fn signed(&self, position: usize, store: &Store) -> bool {
         let block = &store.memory[BLOCK * position..BLOCK * (position + 1)];
-        let digest = digest(block);
+        let digest = block_digest((self.first + position) as u32, block);
         store.golden.chunks_exact(32).any(|known| known == digest)
     }
 

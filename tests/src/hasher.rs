@@ -1,4 +1,4 @@
-//! The reference's SHA-256 with a memory of the blocks that it has hashed.
+//! The reference's SHA-256 with a memory of the messages that it has hashed.
 use crate::sha256::Sha256;
 use std::cell::RefCell;
 use std::collections::HashMap;
@@ -11,27 +11,27 @@ pub struct Hasher {
 }
 
 impl Hasher {
-    /// The same block is often asked for many times in a row.
-    pub fn digest(&mut self, block: &[u8]) -> [u8; 32] {
+    /// The same message is often asked for many times in a row.
+    pub fn digest(&mut self, message: &[u8]) -> [u8; 32] {
         match &self.last {
-            Some((last, digest)) if last == block => *digest,
+            Some((last, digest)) if last == message => *digest,
             _ => {
-                let digest = self.looked_up(block);
-                self.last = Some((block.to_vec(), digest));
+                let digest = self.looked_up(message);
+                self.last = Some((message.to_vec(), digest));
                 digest
             }
         }
     }
 
-    fn looked_up(&mut self, block: &[u8]) -> [u8; 32] {
-        if let Some(digest) = self.known.get(block) {
+    fn looked_up(&mut self, message: &[u8]) -> [u8; 32] {
+        if let Some(digest) = self.known.get(message) {
             return *digest;
         }
         if self.known.len() >= 4096 {
             self.known.clear();
         }
-        let digest = self.sha256.digest(block);
-        self.known.insert(block.to_vec(), digest);
+        let digest = self.sha256.digest(message);
+        self.known.insert(message.to_vec(), digest);
         digest
     }
 }
@@ -40,7 +40,12 @@ thread_local! {
     static HASHER: RefCell<Hasher> = RefCell::default();
 }
 
-/// The block's digest.
-pub fn digest(block: &[u8]) -> [u8; 32] {
-    HASHER.with(|hasher| hasher.borrow_mut().digest(block))
+/// The message's digest.
+pub fn digest(message: &[u8]) -> [u8; 32] {
+    HASHER.with(|hasher| hasher.borrow_mut().digest(message))
+}
+
+/// The digest of the block with this number and these contents (signature 1).
+pub fn block_digest(number: u32, contents: &[u8]) -> [u8; 32] {
+    digest(&[&number.to_be_bytes(), contents].concat())
 }

@@ -3,7 +3,7 @@ use crate::bytes::word;
 use crate::cases::scene::*;
 use crate::compare::{difference, Comparer, Outcome};
 use crate::demand::Told;
-use crate::hasher::digest;
+use crate::hasher::block_digest;
 use crate::monitor::{
     naming_memory_kind, plain_call, Call, Given, Kind, Monitor, BLOCK, KINDS_AT, KINDS_BYTES, MARKED, NUMBERS,
 };
@@ -91,7 +91,7 @@ pub struct Lister {
 
 impl Lister {
     /// A memory with data, beginnings of tables and zeros, some of it signed, if there is room sixteen signed blocks that all differ, and a ledger of
-    /// random bytes with many marks.
+    /// random bytes with many marks. Zeros are signed where the list begins, and at every second place of other regions that a begin may move to.
     pub fn new(seed: u64, blocks: usize) -> Lister {
         let mut random = Random::new(1000 + seed);
         let first = 256 * random.below(5) as u32;
@@ -109,7 +109,10 @@ impl Lister {
             scene.fill(position, &mut random);
             scene.sign(position);
         }
-        scene.store.golden.extend(zero_digest());
+        scene.sign_zeros(first..first + blocks as u32);
+        for elsewhere in [0, 0x200, 0x700] {
+            scene.sign_zeros((elsewhere..elsewhere + blocks.min(200) as u32).step_by(2));
+        }
         if seed % 15 == 7 {
             scene.store.golden.push(1);
         }
@@ -404,7 +407,8 @@ impl Lister {
     }
 
     fn is_signed(&self, position: usize) -> bool {
-        let digest = digest(&self.scene.store.memory[BLOCK * position..BLOCK * (position + 1)]);
+        let contents = &self.scene.store.memory[BLOCK * position..BLOCK * (position + 1)];
+        let digest = block_digest(self.block(position), contents);
         self.scene.store.golden.chunks_exact(32).any(|known| known == digest)
     }
 

@@ -98,7 +98,7 @@ fn typed(blocks: usize) -> Scene {
 fn written_words() {
     for (rights, page, section) in [(0, 0x01F, 0x41E), (1, 0x02F, 0x81E), (3, 0x03F, 0xC1E), (5, 0x02E, 0x80E)] {
         let mut scene = typed(512);
-        scene.store.golden = zero_digest().to_vec();
+        scene.sign_all_zeros();
         assert_eq!(answer(&mut scene, MapL2, &[0x104, 9, 0x105, rights]), 0);
         assert_eq!(scene.word(4, 9), 0x0010_5000 + page);
         assert_eq!(answer(&mut scene, MapL1, &[0x100, 4095, 0x200, rights]), 0);
@@ -106,7 +106,7 @@ fn written_words() {
     }
     for (rights, low) in [(0, 0x801D), (1, 0x802D), (3, 0x803D), (5, 0x002D)] {
         let mut scene = typed(32);
-        scene.store.golden = zero_digest().to_vec();
+        scene.sign_all_zeros();
         assert_eq!(answer(&mut scene, MapLarge, &[0x104, 32, 0x110, rights]), 0);
         assert!((0..1024).all(|at| scene.word(4, at) == if at / 16 == 2 { 0x0011_0000 + low } else { 0 }));
     }
@@ -289,7 +289,7 @@ fn the_new_entry_may_not_go_into_its_signed_target() {
 #[test]
 fn new_entries_are_compared_with_each_other() {
     let mut scene = Scene::new(0x100, 16);
-    scene.store.golden = zero_digest().to_vec();
+    scene.sign_all_zeros();
     scene.put(8, 0, scene.mapping(9, PAGE_WRITE));
     scene.put(8, 1023, scene.mapping(9, PAGE_EXECUTE));
     assert_eq!(answer(&mut scene, CreateL2, &[0x108]), 11);
@@ -298,7 +298,7 @@ fn new_entries_are_compared_with_each_other() {
 #[test]
 fn an_executable_table_is_frozen() {
     let mut scene = typed(16);
-    scene.store.golden = zero_digest().to_vec();
+    scene.sign_all_zeros();
     scene.set_types(5..6, 2);
     assert_eq!(answer(&mut scene, MapL2, &[0x105, 0, 0x104, 5]), 0);
     assert_eq!(answer(&mut scene, MapL2, &[0x104, 0, 0x106, 1]), 7);
@@ -404,14 +404,14 @@ fn only_1_is_a_mark() {
 #[test]
 fn different_blocks_are_counted() {
     let mut scene = typed(512);
-    scene.store.golden = zero_digest().to_vec();
+    scene.sign_all_zeros();
     [256, 300, 511].into_iter().for_each(|position| scene.set_record(position, MARK, 1));
     assert_eq!(hashed(&mut scene, MapL1, &[0x100, 0, 0x200, 5]), (0, 253));
     assert_eq!(marks(&scene), marked(512, &(256..512).collect::<Vec<usize>>()));
     assert_eq!(hashed(&mut scene, MapL1, &[0x100, 1, 0x200, 5]), (0, 0));
     assert_eq!(hashed(&mut scene, MapLarge, &[0x104, 16, 0x110, 5]), (0, 16));
     let mut scene = Scene::new(0x100, 16);
-    scene.store.golden = zero_digest().to_vec();
+    scene.sign_all_zeros();
     (0..1024).for_each(|index| scene.put(8, index, scene.mapping(9, PAGE_EXECUTE)));
     assert_eq!(hashed(&mut scene, CreateL2, &[0x108]), (0, 1));
     assert_eq!(marks(&scene), marked(16, &[9]));

@@ -119,7 +119,8 @@ fn golden(scene: &mut Scene, random: &mut Random) {
         }
     }
     if random.below(2) == 0 {
-        scene.store.golden.extend(zero_digest());
+        let numbers: Vec<u32> = (0..scene.blocks().min(1000)).map(|position| scene.block(position)).collect();
+        scene.sign_zeros(numbers);
     }
     if random.below(30) == 0 {
         scene.store.golden.push(0);

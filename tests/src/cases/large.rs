@@ -93,7 +93,7 @@ impl About {
     /// its last entry to the last of them.
     fn scene(&self, blocks: usize) -> Scene {
         let mut scene = Scene::new(FIRST, blocks);
-        scene.store.golden = zero_digest().to_vec();
+        scene.sign_all_zeros();
         scene.set_record(PAGE_TABLE, TYPE, if self.kind == CreateL2 { 0 } else { 2 });
         if self.is_guest() {
             scene.set_marks(0..blocks, MARKED);

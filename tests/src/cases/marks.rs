@@ -173,7 +173,7 @@ fn many_unsigned(kind: Kind, comparer: &mut Comparer) -> Outcome {
 /// A new L2 block that executes these blocks in turn, in all its entries.
 fn executing_pages(blocks: &[usize]) -> Scene {
     let mut scene = Scene::new(FIRST, LARGE_REGION);
-    scene.store.golden = zero_digest().to_vec();
+    scene.sign_all_zeros();
     for index in 0..1024 {
         scene.put(PAGE_TABLE, index, scene.mapping(blocks[index % blocks.len()], PAGE_EXECUTE));
     }
@@ -200,7 +200,7 @@ fn many_pages(comparer: &mut Comparer) -> Outcome {
 /// Pages of blocks that a large page executes too, and of blocks beside them; blocks that are only read or written.
 fn pages_and_large_pages(comparer: &mut Comparer) -> Outcome {
     let mut scene = Scene::new(FIRST, LARGE_REGION);
-    scene.store.golden = zero_digest().to_vec();
+    scene.sign_all_zeros();
     scene.put_run(PAGE_TABLE, 16, scene.mapping(LARGE, LARGE_EXECUTE));
     scene.put_run(PAGE_TABLE, 64, scene.mapping(LARGE, LARGE_EXECUTE));
     let block = [scene.block(PAGE_TABLE)];
@@ -244,7 +244,7 @@ fn random_pages(comparer: &mut Comparer) -> Outcome {
     let mut random = Random::new(61);
     for _ in 0..300 {
         let mut scene = Scene::new(FIRST, LARGE_REGION);
-        scene.store.golden = zero_digest().to_vec();
+        scene.sign_all_zeros();
         (0..LARGE_REGION).for_each(|position| scene.set_record(position, MARK, random_mark(&mut random)));
         for _ in 0..1 + random.below(60) {
             let written = random.below(8) == 0;
@@ -264,7 +264,7 @@ fn random_pages(comparer: &mut Comparer) -> Outcome {
 /// Sections that share blocks, and sections that only write.
 fn many_sections(comparer: &mut Comparer) -> Outcome {
     let mut scene = Scene::new(FIRST, 772);
-    scene.store.golden = zero_digest().to_vec();
+    scene.sign_all_zeros();
     let block = [scene.block(768)];
     (0..4096).for_each(|index| scene.put(768, index, scene.mapping(256, SECTION_EXECUTE)));
     comparer.check(scene.expect("4,096 times one section", CreateL1, &block, 0).hashing(256))?;
@@ -285,7 +285,7 @@ fn own_sections(comparer: &mut Comparer) -> Outcome {
     for table in [0, 128, 252] {
         let mut scene = Scene::new(FIRST, 256);
         scene.put(table, 0, scene.mapping(0, SECTION_EXECUTE));
-        scene.store.golden = zero_digest().to_vec();
+        scene.sign_all_zeros();
         let block = [FIRST + table as u32];
         comparer.check(scene.expect("an unsigned table executes itself", CreateL1, &block, 12).hashing(0))?;
         let mut marked = scene.clone();
@@ -364,7 +364,7 @@ fn sequence(comparer: &mut Comparer, name: &str, scene: &Scene, steps: &[Step]) 
 /// A block's mark over several calls. Block 8 is code, by the L2 block 4 of the active table 0.
 fn sequences(comparer: &mut Comparer) -> Outcome {
     let mut scene = Scene::new(0, 16);
-    scene.store.golden = zero_digest().to_vec();
+    scene.sign_all_zeros();
     scene.fill(8, &mut Random::new(62));
     scene.put_byte(8, 0, 65);
     scene.sign(8);
@@ -380,7 +380,7 @@ fn sequences(comparer: &mut Comparer) -> Outcome {
     let remove: Step = (UnmapL2, &[4, 5], 0, 0);
     let write: Step = (MapL2, &[4, 5, 8, 3], 0, 0);
     let read: Step = (MapL2, &[4, 5, 8, 1], 0, 0);
-    let lists: [(&str, &[Step]); 9] = [
+    let lists: [(&str, &[Step]); 10] = [
         ("twice at once", &[execute, (MapL2, &[4, 6, 8, 5], 0, 0)]),
         ("twice", &[execute, remove, again]),
         ("the same byte", &[execute, remove, write, (Write, &[0x5000, 65], 0, 0), remove, execute]),
@@ -395,6 +395,21 @@ fn sequences(comparer: &mut Comparer) -> Outcome {
             &[execute, (Fetch, &[0x5000], 0, 0), remove, read, (Read, &[0x5000], 0, 0), remove, again],
         ),
         ("forgotten", &[execute, remove, (Forget, &[8, 1], 0, 0), execute, remove, (Forget, &[7, 1], 0, 0), again]),
+        (
+            "begun elsewhere and here again",
+            &[
+                execute,
+                remove,
+                (UnmapL1, &[0, 0], 0, 0),
+                (Begin, &[0x100], 0, 0),
+                (CreateL1, &[0x100], 0, 0),
+                (CreateL2, &[0x104], 0, 0),
+                (MapL2, &[0x104, 5, 0x108, 5], 12, 0),
+                (Begin, &[0], 0, 0),
+                (CreateL2, &[4], 0, 0),
+                execute,
+            ],
+        ),
         (
             "a table",
             &[
@@ -422,7 +437,7 @@ fn sequences(comparer: &mut Comparer) -> Outcome {
 /// A table that executes sixteen blocks is created, freed and created again, with a forget of some blocks in between.
 fn created_again(comparer: &mut Comparer) -> Outcome {
     let mut scene = Scene::new(0, 32);
-    scene.store.golden = zero_digest().to_vec();
+    scene.sign_all_zeros();
     (0..16).for_each(|index| scene.put(4, index, scene.mapping(8 + index, PAGE_EXECUTE)));
     let steps: [Step; 9] = [
         (Begin, &[0], 0, 0),

@@ -4,6 +4,7 @@ mod hostile;
 mod kinds;
 mod large;
 mod marks;
+mod places;
 mod reasons;
 mod regions;
 pub mod scene;
@@ -60,6 +61,9 @@ fn rules(kind: Kind, comparer: &mut Comparer) -> Outcome {
             whole::run(kind, comparer)?;
             hostile::run(kind, comparer)?;
         }
+    }
+    if matches!(kind, Kind::CreateL1 | Kind::CreateL2 | Kind::MapL1 | Kind::MapL2 | Kind::MapLarge) {
+        places::run(kind, comparer)?;
     }
     marks::run(kind, comparer)
 }

@@ -74,7 +74,7 @@ pub fn large_scene() -> Scene {
     let mut scene = Scene::new(FIRST, LARGE_REGION);
     scene.set_marks(PAGE_TABLE..PAGE_TABLE + 1, MARKED);
     scene.set_types(PAGE_TABLE..PAGE_TABLE + 1, 2);
-    scene.store.golden = zero_digest().to_vec();
+    scene.sign_all_zeros();
     scene
 }
 
@@ -119,7 +119,7 @@ fn create_l1(low: u32) -> Setup {
     scene.set_types(L1_TABLE..L1_TABLE + 4, 0);
     scene.put(L1_TABLE, 3, scene.link(L2_BLOCK, 1));
     scene.put(L1_TABLE, 1030, scene.mapping(0, low));
-    scene.store.golden = zero_digest().to_vec();
+    scene.sign_all_zeros();
     let block = scene.block(L1_TABLE);
     Setup::new(scene, CreateL1, &[block])
 }
@@ -151,7 +151,7 @@ fn free_l2(low: u32, which: usize) -> Setup {
 
 fn map_l1(rights: u32) -> Setup {
     let mut scene = l1_scene();
-    scene.store.golden = zero_digest().to_vec();
+    scene.sign_all_zeros();
     let arguments = [scene.block(L1_TABLE), 1030, scene.block(0), rights];
     Setup::new(scene, MapL1, &arguments)
 }

@@ -1,9 +1,10 @@
 //! Building the buffers of a case.
 use super::Case;
 use crate::bytes::{put_word, word};
-use crate::hasher::digest;
+use crate::hasher::block_digest;
 use crate::monitor::{own, Call, Kind, Store, BLOCK, KINDS_AT, LEDGER_HEAD, LEDGER_RECORD, NO_TABLE};
 use crate::random::Random;
+use std::ops::Range;
 use std::rc::Rc;
 
 pub const TYPE: usize = 0;
@@ -90,13 +91,13 @@ impl Scene {
         put_word(&mut self.store.ledger, LEDGER_HEAD + LEDGER_RECORD * position + 4 * which, value);
     }
 
-    pub fn set_types(&mut self, positions: std::ops::Range<usize>, code: u32) {
+    pub fn set_types(&mut self, positions: Range<usize>, code: u32) {
         for position in positions {
             self.set_record(position, TYPE, code);
         }
     }
 
-    pub fn set_marks(&mut self, positions: std::ops::Range<usize>, mark: u32) {
+    pub fn set_marks(&mut self, positions: Range<usize>, mark: u32) {
         for position in positions {
             self.set_record(position, MARK, mark);
         }
@@ -172,8 +173,19 @@ impl Scene {
     /// Adds the block's digest to the golden image.
     pub fn sign(&mut self, position: usize) {
         if let Some(block) = self.store.memory.get(BLOCK * position..BLOCK * (position + 1)) {
-            self.store.golden.extend_from_slice(&digest(block));
+            self.store.golden.extend_from_slice(&block_digest(self.block(position), block));
         }
+    }
+
+    /// Adds to the golden image the digests of the blocks with these numbers and nothing but zeros.
+    pub fn sign_zeros(&mut self, numbers: impl IntoIterator<Item = u32>) {
+        self.store.golden.extend(numbers.into_iter().flat_map(|number| block_digest(number, &[0; BLOCK])));
+    }
+
+    /// A golden image that signs zeros in every place of the region, which has at most 1,024 blocks.
+    pub fn sign_all_zeros(&mut self) {
+        self.store.golden.clear();
+        self.sign_zeros(self.block(0)..self.block(self.blocks()));
     }
 
     pub fn case(&self, name: &str, kind: Kind, arguments: &[u32]) -> Case {
@@ -184,9 +196,4 @@ impl Scene {
     pub fn expect(&self, name: &str, kind: Kind, arguments: &[u32], answer: u32) -> Case {
         Case { expected: Some(answer), ..self.case(name, kind, arguments) }
     }
-}
-
-/// The zero block's digest.
-pub fn zero_digest() -> [u8; 32] {
-    digest(&[0; BLOCK])
 }

@@ -53,7 +53,7 @@ impl Shape {
     /// A table by the target and the rights of each entry. Blocks of zeros are signed; the second target is not.
     fn scene(&self, entry: impl Fn(usize) -> (usize, usize)) -> Scene {
         let mut scene = Scene::new(FIRST, self.blocks);
-        scene.store.golden = zero_digest().to_vec();
+        scene.sign_all_zeros();
         scene.put_byte(self.place(1) + self.target - 1, 4095, 1);
         for index in 0..self.entries {
             let (target, rights) = entry(index);
@@ -128,7 +128,7 @@ fn counters(shape: &Shape, comparer: &mut Comparer) -> Outcome {
 /// Every two of twenty-four adjacent blocks, one executed and one written.
 fn neighbours(comparer: &mut Comparer) -> Outcome {
     let mut empty = Scene::new(FIRST, 40);
-    empty.store.golden = zero_digest().to_vec();
+    empty.sign_all_zeros();
     for executed in 8..32 {
         for written in 8..32 {
             let mut scene = empty.clone();

@@ -50,11 +50,12 @@ impl View<'_> {
         self.golden.len() % 32 != 0 || self.golden.len() / 32 > 1024
     }
 
-    /// signature 3
+    /// signature 1 and 3
     pub fn signed(&self, block: u64) -> bool {
         let at = self.offset(block);
-        let Some(bytes) = self.memory.get(at..at + BLOCK) else { return false };
-        let digest = digest(bytes);
+        let Some(contents) = self.memory.get(at..at + BLOCK) else { return false };
+        let number = (block as u32).to_be_bytes().to_vec();
+        let digest = digest(&[&number[..], contents].concat());
         self.golden.chunks_exact(32).any(|known| known == digest)
     }
 }
