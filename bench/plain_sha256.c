@@ -58,21 +58,15 @@ static void compress(uint32_t hash[8], const uint8_t *block)
     hash[7] += h;
 }
 
-void plain_sha256(const uint8_t *message, size_t length, uint8_t *digest)
+/* The rest of a message of `length` bytes, its padding, and the digest. */
+static void finish(uint32_t hash[8], const uint8_t *rest, size_t rest_length, uint64_t length, uint8_t *digest)
 {
-    uint32_t hash[8];
     uint8_t tail[128] = {0};
-    size_t whole = length / 64 * 64, rest = length - whole, end = rest < 56 ? 64 : 128;
-    memcpy(hash, initial_hash, sizeof hash);
-    for (size_t i = 0; i < whole; i += 64) {
-        compress(hash, message + i);
-    }
-    if (rest > 0) {
-        memcpy(tail, message + whole, rest);
-    }
-    tail[rest] = 0x80;
+    size_t end = rest_length < 56 ? 64 : 128;
+    memcpy(tail, rest, rest_length);
+    tail[rest_length] = 0x80;
     for (int i = 0; i < 8; i++) {
-        tail[end - 1 - i] = (uint8_t)((uint64_t)length * 8 >> 8 * i);
+        tail[end - 1 - i] = (uint8_t)(length * 8 >> 8 * i);
     }
     for (size_t i = 0; i < end; i += 64) {
         compress(hash, tail + i);
@@ -80,4 +74,18 @@ void plain_sha256(const uint8_t *message, size_t length, uint8_t *digest)
     for (int i = 0; i < 32; i++) {
         digest[i] = (uint8_t)(hash[i / 4] >> 8 * (3 - i % 4));
     }
+}
+
+void plain_block_digest(const uint8_t *contents, size_t length, uint32_t number, uint8_t *digest)
+{
+    uint32_t hash[8];
+    uint8_t head[64] = {(uint8_t)(number >> 24), (uint8_t)(number >> 16), (uint8_t)(number >> 8), (uint8_t)number};
+    size_t i = sizeof head - 4;
+    memcpy(hash, initial_hash, sizeof hash);
+    memcpy(head + 4, contents, i);
+    compress(hash, head);
+    for (; i + 64 <= length; i += 64) {
+        compress(hash, contents + i);
+    }
+    finish(hash, contents + i, length - i, 4 + (uint64_t)length, digest);
 }

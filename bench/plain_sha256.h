@@ -1,10 +1,11 @@
-/* SHA-256 in plain C, the same algorithm as the library's: what its speed is compared with. */
+/* The digest of a block in plain C, the same algorithm as the library's: what its speed is compared with. */
 #ifndef PLAIN_SHA256_H
 #define PLAIN_SHA256_H
 
 #include <stddef.h>
 #include <stdint.h>
 
-void plain_sha256(const uint8_t *message, size_t length, uint8_t *digest);
+/* The contents have at least 60 bytes. */
+void plain_block_digest(const uint8_t *contents, size_t length, uint32_t number, uint8_t *digest);
 
 #endif

@@ -1,6 +1,6 @@
 //! The calls in plain Rust, written for speed: what a good program without proofs would be. Safe Rust, every index checked.
 //! Create and free count a table's entries in lent scratch bytes first, COUNT for each block; their counts are 0 before and after each call.
-use crate::sha256::sha256;
+use crate::sha256::block_digest;
 
 const BLOCK: usize = 4096;
 const LEDGER_HEAD: usize = 24;
@@ -170,8 +170,8 @@ fn judge_image(golden: &[u8]) -> Judged {
     refuse_if(golden.len() % DIGEST != 0 || golden.len() > 1024 * DIGEST, 1)
 }
 
-fn is_signed(memory: &[u8], b: usize, golden: &[u8]) -> bool {
-    let digest = sha256(&memory[BLOCK * b..BLOCK * (b + 1)]);
+fn is_signed(memory: &[u8], region: Region, b: usize, golden: &[u8]) -> bool {
+    let digest = block_digest(region.first + b as u32, &memory.as_chunks().0[b]);
     golden.chunks_exact(DIGEST).any(|listed| listed == digest)
 }
 
@@ -475,14 +475,14 @@ impl New {
 
     /// Refusals 10 to 13.
     #[inline(always)]
-    fn judge(&self, memory: &[u8], ledger: &[Record], golden: &[u8], counts: &Counts) -> Judged<u32> {
+    fn judge(&self, memory: &[u8], ledger: &[Record], golden: &[u8], region: Region, counts: &Counts) -> Judged<u32> {
         refuse_if(self.refusal < 12, self.refusal)?;
         let mut hashed = 0;
         if self.executes {
             for i in 0..counts.counted {
                 let b = counts.block(i);
                 if word(&counts.scratch[b], X) > 0 && !is_marked(&ledger[b]) {
-                    refuse_if(!is_signed(memory, b, golden), 12)?;
+                    refuse_if(!is_signed(memory, region, b, golden), 12)?;
                     hashed += 1;
                 }
             }
@@ -523,7 +523,7 @@ fn create<V: Level>(
     let mut new = New { refusal: NONE, executes: false };
     let judged = new
         .count::<V>(memory, ledger, region, block, b, &mut counts)
-        .and_then(|()| new.judge(memory, ledger, golden, &counts));
+        .and_then(|()| new.judge(memory, ledger, golden, region, &counts));
     if judged.is_err() {
         counts.clear();
         return judged;
@@ -810,7 +810,7 @@ fn map_blocks<const M: u32>(
         refuse_if((target..target + M).contains(&holder), 10)?;
         refuse_if(target_records.iter().any(|record| word(record, W) > 0), 11)?;
         for (b, _) in (t..).zip(target_records).filter(|(_, record)| !is_marked(record)) {
-            refuse_if(!is_signed(memory, b, golden), 12)?;
+            refuse_if(!is_signed(memory, region, b, golden), 12)?;
             hashed += 1;
         }
         refuse_if(target_records.iter().any(|record| word(record, X) >= LIMIT), 13)?;
@@ -865,7 +865,7 @@ fn judge_map_l2(
         refuse_if(target == block, 10)?;
         refuse_if(w > 0, 11)?;
         if !is_marked(record) {
-            refuse_if(!is_signed(memory, t, golden), 12)?;
+            refuse_if(!is_signed(memory, region, t, golden), 12)?;
             hashed = 1;
         }
         refuse_if(x >= LIMIT, 13)?;

@@ -1,7 +1,7 @@
 //! The two programs do the same: answers, bytes and numbers given, memory and ledger, for every workload and for random calls.
 use crate::baseline::COUNT;
 use crate::program::{Buffers, Given, Monitor, Plain, Program};
-use crate::sha256::sha256;
+use crate::sha256::block_digest;
 use crate::workloads::Batch;
 use calls::random::Random;
 use calls::{ledger_bytes, Kind, BLOCK, KINDS_AT, KINDS_BYTES, LEDGER_HEAD, LEDGER_RECORD, MARKED, NUMBERS};
@@ -51,7 +51,7 @@ impl Drawn {
         let lent = Buffers {
             memory: vec![0; BLOCK * blocks],
             ledger: vec![0; ledger_bytes(blocks)],
-            golden: [sha256(&[0; BLOCK]), [7; 32]].concat(),
+            golden: (0..1024).flat_map(|number| block_digest(number, &[0; BLOCK])).collect(),
             kinds: vec![0; KINDS_BYTES],
             scratch: vec![0; COUNT * blocks],
         };

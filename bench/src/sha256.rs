@@ -1,4 +1,6 @@
-//! SHA-256 (FIPS 180-4) in plain Rust, of messages of whole 64-byte blocks.
+//! The digest of a block in plain Rust: SHA-256 (FIPS 180-4) of its number and its contents.
+use calls::BLOCK;
+
 const K: [u32; 64] = [
     0x428a2f98, 0x71374491, 0xb5c0fbcf, 0xe9b5dba5, 0x3956c25b, 0x59f111f1, 0x923f82a4, 0xab1c5ed5, 0xd807aa98,
     0x12835b01, 0x243185be, 0x550c7dc3, 0x72be5d74, 0x80deb1fe, 0x9bdc06a7, 0xc19bf174, 0xe49b69c1, 0xefbe4786,
@@ -52,16 +54,21 @@ fn compress(hash: &mut [u32; 8], block: &[u8; 64]) {
     }
 }
 
-pub fn sha256(message: &[u8]) -> [u8; 32] {
-    assert!(message.len() % 64 == 0);
-    let mut hash = START;
-    for block in message.chunks_exact(64) {
-        compress(&mut hash, block.try_into().unwrap());
+pub fn block_digest(number: u32, contents: &[u8; BLOCK]) -> [u8; 32] {
+    let (mut part, mut hash) = ([0; 64], START);
+    let (first, rest) = contents.split_at(60);
+    part[..4].copy_from_slice(&number.to_be_bytes());
+    part[4..].copy_from_slice(first);
+    compress(&mut hash, &part);
+    let (parts, last) = rest.as_chunks();
+    for part in parts {
+        compress(&mut hash, part);
     }
-    let mut last = [0; 64];
-    last[0] = 0x80;
-    last[56..].copy_from_slice(&(8 * message.len() as u64).to_be_bytes());
-    compress(&mut hash, &last);
+    part = [0; 64];
+    part[..last.len()].copy_from_slice(last);
+    part[last.len()] = 0x80;
+    part[56..].copy_from_slice(&(8 * (4 + BLOCK as u64)).to_be_bytes());
+    compress(&mut hash, &part);
     let mut digest = [0; 32];
     for (bytes, word) in digest.chunks_exact_mut(4).zip(hash) {
         bytes.copy_from_slice(&word.to_be_bytes());

@@ -1,7 +1,7 @@
 //! What is measured: a prepared memory and ledger, and a batch of calls of one kind, all with the same answer.
 use crate::baseline::COUNT;
 use crate::program::{Buffers, Given, Plain, Program};
-use crate::sha256::sha256;
+use crate::sha256::block_digest;
 use calls::random::Random;
 use calls::{ledger_bytes, Kind, BLOCK, KINDS_BYTES, NUMBERS};
 use Kind::*;
@@ -103,14 +103,13 @@ impl Scene {
 
     /// Different contents of the executable targets, and an image of 1,024 digests with theirs at its end.
     fn sign_targets(&mut self) {
-        let others = (0..1024 - TARGETS).flat_map(|i| sha256(&[i as u8; 64]));
+        let others = (0..1024 - TARGETS).flat_map(|i| block_digest(i, &[0xFF; BLOCK]));
         self.lent.golden = others.collect();
         for i in 0..TARGETS {
             let at = BLOCK * (DATA - FIRST + i) as usize;
-            let block = &mut self.lent.memory[at..at + BLOCK];
-            block.fill(i as u8 + 1);
-            let digest = sha256(block);
-            self.lent.golden.extend(digest);
+            let contents = [i as u8 + 1; BLOCK];
+            self.lent.memory[at..at + BLOCK].copy_from_slice(&contents);
+            self.lent.golden.extend(block_digest(DATA + i, &contents));
         }
     }
 
@@ -118,7 +117,7 @@ impl Scene {
     fn guest_pages(&mut self, rights: u32) {
         self.tables();
         self.accepted(Link, &[[L1_TABLE, 0, L2_BLOCK, 0]]);
-        self.lent.golden = sha256(&[0; BLOCK]).to_vec();
+        self.sign_zeros(DATA, GUEST_PAGES);
         let words: Vec<_> = (0..GUEST_PAGES).map(|i| [L2_BLOCK, i, DATA + i, rights]).collect();
         self.accepted(MapL2, &words);
         self.accepted(Switch, &[[L1_TABLE, 0, 0, 0]]);
@@ -169,9 +168,15 @@ impl Scene {
         vec![[L1_TABLE, 0, 0, 0]]
     }
 
-    /// Every block of zeros is signed.
-    fn sign_zeros(&mut self) {
-        self.lent.golden = sha256(&[0; BLOCK]).to_vec();
+    /// Of this many blocks from the first on zeros are signed, and nothing else.
+    fn sign_zeros(&mut self, first: u32, blocks: u32) {
+        let numbers = first..first + blocks;
+        self.lent.golden = numbers.flat_map(|number| block_digest(number, &[0; BLOCK])).collect();
+    }
+
+    /// The same of the first section without tables.
+    fn sign_section(&mut self) {
+        self.sign_zeros(self.section(0), SECTION_BLOCKS as u32);
     }
 
     /// Executable pages, in turn of each target.
@@ -333,7 +338,7 @@ pub static CALLS: [Workload; 50] = [
     }),
     workload("map L1, executable section, marked", 512, |scene| {
         scene.tables();
-        scene.sign_zeros();
+        scene.sign_section();
         scene.accepted(MapL1, &[[OTHER_L1_TABLE, 0, scene.section(0), READ_EXECUTE]]);
         accepted(MapL1, (0..64).map(|i| [L1_TABLE, i, scene.section(0), READ_EXECUTE]).collect())
     }),
@@ -532,7 +537,7 @@ pub static HOSTILE_TABLES: [Workload; 12] = [
         refused(CreateL2, scene.pages(word), 11)
     }),
     workload("create L2, executable, read-only in turn", 64, |scene| {
-        scene.sign_zeros();
+        scene.sign_zeros(DATA, 1);
         accepted(
             CreateL2,
             scene.pages(|scene, i| page(scene.data(0), if i % 2 == 0 { READ_EXECUTE } else { READ_ONLY })),
@@ -540,12 +545,12 @@ pub static HOSTILE_TABLES: [Workload; 12] = [
         .hashing(1)
     }),
     workload("create L2, read-only, then executable", 64, |scene| {
-        scene.sign_zeros();
+        scene.sign_zeros(DATA, 1);
         accepted(CreateL2, scene.pages(|scene, i| page(scene.data(0), if i < 512 { READ_ONLY } else { READ_EXECUTE })))
             .hashing(1)
     }),
     workload("create L2, 1,024 executable pages of one", 64, |scene| {
-        scene.sign_zeros();
+        scene.sign_zeros(DATA, 1);
         accepted(CreateL2, scene.pages(|scene, _| page(scene.data(0), READ_EXECUTE))).hashing(1)
     }),
     workload("create L1, 4,095 writable, 1 executable", 512, |scene| {
@@ -577,7 +582,7 @@ pub static HOSTILE_TABLES: [Workload; 12] = [
         refused(CreateL1, scene.sections(word), 11)
     }),
     workload("create L1, executable, read-only in turn", 512, |scene| {
-        scene.sign_zeros();
+        scene.sign_section();
         accepted(
             CreateL1,
             scene.sections(|scene, i| section(scene.section(0), if i % 2 == 0 { READ_EXECUTE } else { READ_ONLY })),
@@ -585,7 +590,7 @@ pub static HOSTILE_TABLES: [Workload; 12] = [
         .hashing(SECTION_BLOCKS as u32)
     }),
     workload("create L1, read-only, then executable", 512, |scene| {
-        scene.sign_zeros();
+        scene.sign_section();
         accepted(
             CreateL1,
             scene.sections(|scene, i| section(scene.section(0), if i < 2048 { READ_ONLY } else { READ_EXECUTE })),
@@ -593,8 +598,11 @@ pub static HOSTILE_TABLES: [Workload; 12] = [
         .hashing(SECTION_BLOCKS as u32)
     }),
     workload("create L1, 4,096 executable sections", 512, |scene| {
-        scene.sign_zeros();
-        let blocks = (scene.blocks - SECTION_BLOCKS) as u32;
-        accepted(CreateL1, scene.sections(|scene, i| section(scene.section(i), READ_EXECUTE))).hashing(blocks)
+        // As many blocks as an image can sign.
+        let blocks = (scene.blocks - SECTION_BLOCKS).min(1024) as u32;
+        scene.sign_zeros(scene.section(0), blocks);
+        let sections = blocks / SECTION_BLOCKS as u32;
+        accepted(CreateL1, scene.sections(|scene, i| section(scene.section(i % sections), READ_EXECUTE)))
+            .hashing(blocks)
     }),
 ];
