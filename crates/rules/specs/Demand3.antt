@@ -24,13 +24,13 @@ counted h s c b = afresh h (blocks s) (s .memory) c (h .B + b)
 pub record Safe (h : Told) (s : Store) : Type 0 where
   -- lists 7: none is both writable and executable
   pub exclusive : (b : ℕ) → b < blocks s → 0 < counted h s writable b → 0 < counted h s executable b → ⊥
-  -- lists 8: each executable one is signed by its present bytes
+  -- lists 8: each executable one is signed, by its number and its present bytes
   pub signs : (b : ℕ) → b < blocks s → 0 < counted h s executable b → signedBlock (h .golden) (h .B) (s .memory) (h .B + b) ≡ true
   -- lists 9: the ledger's counters are the counts read afresh
   pub honest : (c : Counter) (b : ℕ) → b < blocks s → recordWord (s .ledger) (counterWord c) b ≡ counted h s c b
   -- lists 15: the ledger's kinds are those of the last accepted begin
   pub kinds-kept : kindsOf (s .ledger) ≡ h .kinds
-  -- lists 14: each marked one is signed by its present bytes
+  -- lists 14: each marked one is signed, by its number and its present bytes
   pub believed : (b : ℕ) → b < blocks s → recordWord (s .ledger) markWord b ≡ markValue → signedBlock (h .golden) (h .B) (s .memory) (h .B + b) ≡ true
 
 -- lists 10: each block of the tables told has the same bytes afterwards

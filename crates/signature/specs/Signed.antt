@@ -39,9 +39,9 @@ listed d golden = any (length golden / digestBytes) (λ k. agrees d golden k dig
 unfoldable pub blockMessage : ℕ → List ℕ → List ℕ
 blockMessage p contents = bigEndian numberBytes p ++ contents
 
--- signature 6: two blocks have the same message only if number and contents are the same; numbers are words
-abbrev pub MessagesApart : Type 0
-MessagesApart =
+-- signature 6: two blocks have the same message only if they have the same number and the same contents; numbers are words
+abbrev pub BlockMessageInjective : Type 0
+BlockMessageInjective =
     (p q : ℕ) (x y : List ℕ) → p < 2 ^ 32 → q < 2 ^ 32 → blockMessage p x ≡ blockMessage q y → (p ≡ q) × (x ≡ y)
 
 -- signature 1, signature 5: the digest of block p with these contents

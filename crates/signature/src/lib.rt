@@ -30,7 +30,7 @@ pub extern "C" fn signature_block_digest(contents: &[u8], p: u32, digest: &mut [
     *digest = d;
 }
 
-// For C and Rust: is this digest among those of the golden image?
+// For C and Rust: does the golden image sign block p with these contents?
 #[no_mangle]
 pub extern "C" fn signature_is_signed(contents: &[u8], golden: &[u8], p: u32) -> bool
     ensures { λ r. ⌜ r ≡ signed p (now (contents .entry)) (now (golden .entry)) ⌝ }
