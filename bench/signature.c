@@ -1,6 +1,6 @@
 /* The library's digests of blocks of 4,096 bytes beside the same algorithm in plain C: timed alternately, medians and their ratio. */
 #define _POSIX_C_SOURCE 199309L
-#include "plain_sha256.h"
+#include "plain_digest.h"
 #include "signature.h"
 
 #include <stdio.h>

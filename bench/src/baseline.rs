@@ -1,6 +1,6 @@
 //! The calls in plain Rust, written for speed: what a good program without proofs would be. Safe Rust, every index checked.
 //! Create and free count a table's entries in lent scratch bytes first, COUNT for each block; their counts are 0 before and after each call.
-use crate::sha256::block_digest;
+use crate::digest::block_digest;
 
 const BLOCK: usize = 4096;
 const LEDGER_HEAD: usize = 24;

@@ -1,7 +1,7 @@
 //! The two programs do the same: answers, bytes and numbers given, memory and ledger, for every workload and for random calls.
 use crate::baseline::COUNT;
+use crate::digest::block_digest;
 use crate::program::{Buffers, Given, Monitor, Plain, Program};
-use crate::sha256::block_digest;
 use crate::workloads::Batch;
 use calls::random::Random;
 use calls::{ledger_bytes, Kind, BLOCK, KINDS_AT, KINDS_BYTES, LEDGER_HEAD, LEDGER_RECORD, MARKED, NUMBERS};

@@ -5,8 +5,8 @@
 //!     bench --count CALL N PROGRAM BLOCKS     one workload N times on one program (monitor, plain), for an instruction count
 mod baseline;
 mod check;
+mod digest;
 mod program;
-mod sha256;
 mod timing;
 mod workloads;
 

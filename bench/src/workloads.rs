@@ -1,7 +1,7 @@
 //! What is measured: a prepared memory and ledger, and a batch of calls of one kind, all with the same answer.
 use crate::baseline::COUNT;
+use crate::digest::block_digest;
 use crate::program::{Buffers, Given, Plain, Program};
-use crate::sha256::block_digest;
 use calls::random::Random;
 use calls::{ledger_bytes, Kind, BLOCK, KINDS_BYTES, NUMBERS};
 use Kind::*;
@@ -168,13 +168,13 @@ impl Scene {
         vec![[L1_TABLE, 0, 0, 0]]
     }
 
-    /// Of this many blocks from the first on zeros are signed, and nothing else.
+    /// Signs zeros in this many blocks from the first on, and nothing else.
     fn sign_zeros(&mut self, first: u32, blocks: u32) {
         let numbers = first..first + blocks;
         self.lent.golden = numbers.flat_map(|number| block_digest(number, &[0; BLOCK])).collect();
     }
 
-    /// The same of the first section without tables.
+    /// Signs zeros in the first section without tables, and nothing else.
     fn sign_section(&mut self) {
         self.sign_zeros(self.section(0), SECTION_BLOCKS as u32);
     }

@@ -1,4 +1,4 @@
-#include "plain_sha256.h"
+#include "plain_digest.h"
 
 #include <string.h>
 

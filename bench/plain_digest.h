@@ -1,6 +1,6 @@
 /* The digest of a block in plain C, the same algorithm as the library's: what its speed is compared with. */
-#ifndef PLAIN_SHA256_H
-#define PLAIN_SHA256_H
+#ifndef PLAIN_DIGEST_H
+#define PLAIN_DIGEST_H
 
 #include <stddef.h>
 #include <stdint.h>
