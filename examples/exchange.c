@@ -8,7 +8,8 @@
 #include <stdio.h>
 #include <string.h>
 
-enum { BLOCKS = 16, FIRST = 0x100, TABLE = 0, PAGES = 4, ONE = 8, TWO = 9 }; /* all but FIRST counted from the region's start */
+enum { BLOCKS = 16, FIRST = 0x100, NEXT = 0x200 };
+enum { TABLE = 0, PAGES = 4, ONE = 8, TWO = 9 }; /* counted from the region's start */
 
 static uint8_t memory[BLOCKS * PAGEMON_BLOCK_BYTES], ledger[PAGEMON_LEDGER_BYTES(BLOCKS)], golden[2 * PAGEMON_DIGEST_BYTES];
 
@@ -76,9 +77,10 @@ int main(void)
     puts("in their places, in a region 256 blocks further on");
     memset(block(ONE), 0x1E, PAGEMON_BLOCK_BYTES);
     memset(block(TWO), 0x2F, PAGEMON_BLOCK_BYTES);
-    start(FIRST + PAGEMON_SECTION_BLOCKS);
-    map("map the first to execute", FIRST + PAGEMON_SECTION_BLOCKS, ONE, PAGEMON_UNSIGNED);
-    sign(FIRST + PAGEMON_SECTION_BLOCKS);
-    map("the same, with an image made for this region", FIRST + PAGEMON_SECTION_BLOCKS, ONE, PAGEMON_ACCEPTED);
+    start(NEXT);
+    map("map the first to execute", NEXT, ONE, PAGEMON_UNSIGNED);
+    sign(NEXT);
+    start(NEXT); /* another image takes another begin */
+    map("the same, with an image made for this region", NEXT, ONE, PAGEMON_ACCEPTED);
     return failures != 0;
 }

@@ -35,9 +35,15 @@ class Golden(unittest.TestCase):
 
     def run_tool(self, *words, status=0, given=b""):
         done = subprocess.run([TOOL, *words], input=given, stdout=subprocess.PIPE, stderr=subprocess.PIPE)
-        self.assertEqual(done.returncode, status, done.stderr.decode())
-        self.assertEqual(done.stderr == b"", status != 2, done.stderr.decode())
+        self.assertEqual((done.returncode, done.stderr), (status, b""))
         return done.stdout
+
+    def refused(self, said, *words, given=b""):
+        """Status 2, nothing printed, and a message with this in it."""
+        done = subprocess.run([TOOL, *words], input=given, stdout=subprocess.PIPE, stderr=subprocess.PIPE)
+        self.assertEqual((done.returncode, done.stdout), (2, b""))
+        self.assertIn(said, done.stderr.decode())
+        self.assertEqual(done.stderr.count(b"\n"), 1)
 
     def make(self, *words):
         self.run_tool("make", self.image, *words)
@@ -63,11 +69,10 @@ class Golden(unittest.TestCase):
         both = self.make(f"5={one}", f"5={two}")
         self.assertEqual(both, self.make(f"5={one}") + self.make(f"5={two}"))
         self.assertEqual(both, self.make(f"5={one}", f"5={two}", f"5={one}"))
-        self.assertEqual(self.make(f"5={self.file('none', b'')}"), b"")
 
     def test_padding(self):
         short, padded = self.file("short", b"code"), self.file("padded", b"code" + bytes(BLOCK - 4))
-        self.run_tool("make", self.image, f"7={short}", status=2)
+        self.refused("short has 4 bytes", "make", self.image, f"7={short}")
         self.assertFalse(self.image.exists())
         self.assertEqual(self.make("--pad", f"7={short}"), self.make(f"7={padded}"))
         self.assertEqual(self.make("--pad", f"7={padded}"), self.make(f"7={padded}"))
@@ -76,40 +81,61 @@ class Golden(unittest.TestCase):
         data = some_blocks(2)
         image = self.run_tool("make", "-", "3=-", given=data)
         self.assertEqual(image, self.make(f"3={self.file('code', data)}"))
-        self.assertIn(b"2 of 2 blocks signed", self.run_tool("check", "-", f"3={self.folder / 'code'}", given=image))
+        self.assertIn(b"2 of 2 blocks signed, 2 of 2 digests found", self.run_tool("check", "-", f"3={self.folder / 'code'}", given=image))
+        self.refused("standard input", "make", self.image, "1=-", "5=-", given=data)
+        self.refused("standard input", "check", "-", "1=-", given=image)
 
     def test_limits(self):
         most = self.file("most", some_blocks(1024))
         self.assertEqual(len(self.make(f"0={most}")), 32 * 1024)
-        self.run_tool("make", self.image, f"0={most}", f"2000={self.file('one', some_blocks(1))}", status=2)
+        self.refused("1025 digests", "make", self.image, f"0={most}", f"2000={self.file('one', some_blocks(1))}")
         self.assertEqual(len(self.make(f"{0xFFC00}={most}")), 32 * 1024)
-        self.run_tool("make", self.image, f"{0xFFC01}={most}", status=2)
-        self.run_tool("make", self.image, f"-1={most}", status=2)
+        self.refused("0xfffff", "make", self.image, f"{0xFFC01}={most}")
         for length in [1, 31, 33, 32 * 1025]:
-            self.run_tool("check", self.file("unlawful", bytes(length)), f"0={most}", status=2)
+            self.refused(f"unlawful has {length} bytes", "check", self.file("unlawful", bytes(length)), f"0={most}")
+        self.assertIn(b"0 of 1024 blocks signed, 0 of 0 digests found", self.run_tool("check", self.file("empty", b""), f"0={most}", status=1))
+        for length in [0, 1, BLOCK - 1, BLOCK + 1]:
+            self.refused(f"part has {length} bytes", "make", self.image, f"1={self.file('part', bytes(length))}")
+            self.refused(f"part has {length} bytes", "check", self.file("empty", b""), f"1={self.folder / 'part'}")
+        self.refused("part has 0 bytes", "make", "--pad", self.image, f"1={self.file('part', b'')}")
 
     def test_wrong_commands(self):
         code = self.file("code", some_blocks(1))
-        for words in [[], ["sign"], ["make"], ["make", self.image], ["make", self.image, code], ["make", self.image, f"x={code}"], ["make", self.image, "1="],
-                      ["make", "--elsewhere", self.image, f"1={code}"], ["check", self.image, f"1={code}"], ["make", self.image, "1=absent"]]:
-            self.run_tool(*words, status=2)
+        for said, *words in [["make or check"], ["make or check", "sign"], ["needs an image", "make"], ["needs an image", "make", self.image],
+                             ["needs an image", "make", f"1={code}", f"2={code}"], ["is not NUMBER=FILE", "make", self.image, code],
+                             ["is not NUMBER=FILE", "make", self.image, "1="], ["--elsewhere is no option of make", "make", "--elsewhere", self.image, f"1={code}"],
+                             ["--pad is no option of check", "check", "--pad", self.image, f"1={code}"], ["image: No such file", "check", self.image, f"1={code}"],
+                             ["absent: No such file", "make", self.image, "1=absent"], ["one of the files", "make", code, f"1={code}"],
+                             ["Is a directory", "make", self.folder, f"1={code}"]]:
+            self.refused(said, *words)
+        for number in ["x", "-1", "+1", "1_0", " 1", "0x", "0b1", ""]:
+            self.refused("is no number of a block", "make", self.image, f"{number}={code}")
+        self.assertEqual(code.read_bytes(), some_blocks(1))
         self.assertIn(b"usage", self.run_tool("--help"))
+        self.assertIn(b"usage", self.run_tool("make", "--help"))
+
+    def test_a_full_device(self):
+        self.make(f"1={self.file('code', some_blocks(1))}")
+        with open("/dev/full", "w", encoding="ascii") as full:
+            done = subprocess.run([TOOL, "check", self.image, f"1={self.folder / 'code'}"], stdout=full, stderr=subprocess.PIPE, text=True)
+        self.assertEqual((done.returncode, done.stderr.count("\n")), (2, 1))
 
     def test_exchanged_blocks(self):
         one, two = some_blocks(1, 1), some_blocks(1, 2)
         self.make(f"0x105={self.file('code', one + two)}")
-        self.assertEqual(self.lines(self.image, f"0x105={self.folder / 'code'}"), ["0x00105 signed", "0x00106 signed", "2 of 2 blocks signed"])
+        self.assertEqual(self.lines(self.image, f"0x105={self.folder / 'code'}"), ["0x00105 signed", "0x00106 signed", "2 of 2 blocks signed, 2 of 2 digests found"])
         dump = f"0x105={self.file('dump', two + one)}"
-        self.assertEqual(self.lines(self.image, dump, status=1), ["0x00105 not signed", "0x00106 not signed", "0 of 2 blocks signed"])
+        self.assertEqual(self.lines(self.image, dump, status=1), ["0x00105 not signed", "0x00106 not signed", "0 of 2 blocks signed, 0 of 2 digests found"])
         self.assertEqual(self.lines("--elsewhere", self.image, dump, status=1),
-                         ["0x00105 not signed, signed as 0x00106", "0x00106 not signed, signed as 0x00105", "0 of 2 blocks signed"])
-        self.assertEqual(self.lines("--elsewhere", self.image, f"0x205={self.folder / 'code'}", status=1)[-1], "0 of 2 blocks signed")
+                         ["0x00105 not signed, signed as 0x00106", "0x00106 not signed, signed as 0x00105", "0 of 2 blocks signed, 0 of 2 digests found"])
+        self.assertEqual(self.lines("--elsewhere", self.image, f"0x205={self.folder / 'code'}", status=1),
+                         ["0x00205 not signed", "0x00206 not signed", "0 of 2 blocks signed, 0 of 2 digests found"])
 
     def test_the_monitor_says_the_same(self):
         contents = [some_blocks(1, seed) for seed in (1, 1, 2, 3, 4, 5, 6, 7, 8)] + [bytes(BLOCK)] * 3
         contents[7] = contents[7][:-1] + bytes([contents[7][-1] ^ 1])
-        signed = {0x100: contents[0], 0x102: contents[2], 0x103: contents[4], 0x104: contents[3], 0x106: contents[6], 0x107: some_blocks(1, 7), 0x109: bytes(BLOCK)}
-        self.make(*[f"{number}={self.file(str(number), data)}" for number, data in signed.items()])
+        made_for = {0x100: contents[0], 0x102: contents[2], 0x103: contents[4], 0x104: contents[3], 0x106: contents[6], 0x107: some_blocks(1, 7), 0x109: bytes(BLOCK)}
+        self.make(*[f"{number}={self.file(str(number), data)}" for number, data in made_for.items()])
         dump = self.file("dump", b"".join(contents))
         for first, signed in [(0x100, [0x100, 0x102, 0x106, 0x109]), (0x200, [])]:
             said = self.lines(self.image, f"{first}={dump}", status=1)[:-2]
