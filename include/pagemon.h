@@ -10,8 +10,8 @@
  *            execute from it, l the L1 entries that link to it. A block is marked if its mark is exactly PAGEMON_MARKED: create and map then
  *            take it for signed and do not hash it. They believe this of any ledger that they are lent.
  *   golden   the golden image: SHA-256 digests of PAGEMON_DIGEST_BYTES, one behind the other in any order, none or up to
- *            PAGEMON_MAX_DIGESTS. A block's digest is that of its number, four bytes with the highest first, and of its bytes behind them, so
- *            that contents are signed for one block and no other. signature.h makes digests, and so does tools/golden.
+ *            PAGEMON_MAX_DIGESTS. A block's digest is over its number, four bytes with the highest first, and then its 4,096 bytes: one digest
+ *            signs contents in one block only. signature_block_digest of signature.h makes digests, and tools/golden images.
  *   kinds    PAGEMON_KINDS_BYTES bytes, the eight memory kinds of a region, as the ledger has them: pagemon_kind below.
  *
  * No two buffers of a call share a byte, and nothing else writes them during the call. Any alignment will do. A pointer whose length is 0 is

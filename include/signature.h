@@ -17,7 +17,7 @@ enum { SIGNATURE_DIGEST_BYTES = 32 };
 
 /*
  * Stores the digest of the message's `length` bytes, any number of them, in the SIGNATURE_DIGEST_BYTES bytes at `digest`. The message is
- * only read.
+ * only read. Of a block's contents this is not the digest that an image has: signature_block_digest makes that.
  *
  * `message` is not followed where `length` is 0, and may then be NULL; `digest` is not NULL. They have any alignment, and share no byte.
  */
@@ -32,8 +32,9 @@ void signature_sha256(const uint8_t *message, size_t length, uint8_t *digest);
 void signature_block_digest(const uint8_t *contents, size_t length, uint32_t number, uint8_t *digest);
 
 /*
- * Does the golden image have this digest? An image is digests of SIGNATURE_DIGEST_BYTES, one behind the other in any order; bytes behind the
- * last whole one count for nothing. Both lengths may be any number.
+ * Does the golden image sign block `number` with these contents: has it the digest that signature_block_digest stores? An image is digests of
+ * SIGNATURE_DIGEST_BYTES, one behind the other in any order; bytes behind the last whole one count for nothing. Both lengths may be any
+ * number.
  *
  * A pointer whose length is 0 is not followed, and may be NULL; no other pointer is NULL. `contents` and `golden` have any alignment, are
  * only read, and may share bytes.

@@ -15,7 +15,7 @@
 #include <sys/mman.h>
 #include <unistd.h>
 
-enum { PAGE = 4096, CANARY = 0xC5, DIGESTS = 258 };
+enum { PAGE = 4096, CANARY = 0xC5, DIGESTS = 2 + PAGEMON_SECTION_BLOCKS };
 
 /* A region with a section of data, and behind it tables, of which one lies in the last four blocks, and a page that is written. */
 enum { BLOCKS = 276, FIRST = 0x100, CODE = 0x108, DATA = 0x10A };
@@ -166,7 +166,7 @@ static void put_memory(uint8_t *memory)
     put_word(memory + MEMORY_BYTES - 4, 0x5A000000);
 }
 
-/* The digest of the code is the first, and those of zeros in the places of the region's first section are the last. */
+/* The digest of the code, one of no block, and those of zeros in the places of the region's first section. */
 static void make_golden(uint8_t *golden)
 {
     uint8_t content[PAGEMON_BLOCK_BYTES], *place = golden + GOLDEN_BYTES;
@@ -491,14 +491,14 @@ static void digest_at(uint8_t *message, size_t length, uint8_t *place)
     memcpy(message, content, length);
     signature_sha256(message, length, place);
     expect(memcmp(place, digest, sizeof digest) == 0, "digest of a message of length", "signature_sha256", length);
-    expect(!signature_is_signed(message, length, place, sizeof digest, CODE), "a signature of no place, length", "signature_is_signed", length);
+    expect(!signature_is_signed(message, length, place, sizeof digest, CODE), "the digest of the contents alone signs, length", "signature_is_signed", length);
     signature_sha256(numbered, 4 + length, digest);
     signature_block_digest(message, length, CODE, place);
     expect(memcmp(place, digest, sizeof digest) == 0, "digest of contents of length", "signature_block_digest", length);
-    expect(signature_is_signed(message, length, place, sizeof digest, CODE), "no signature of contents of length", "signature_is_signed", length);
-    expect(!signature_is_signed(message, length, place, sizeof digest, DATA), "a signature of another place, length", "signature_is_signed", length);
+    expect(signature_is_signed(message, length, place, sizeof digest, CODE), "a digest does not sign, length", "signature_is_signed", length);
+    expect(!signature_is_signed(message, length, place, sizeof digest, DATA), "a digest signs in another place, length", "signature_is_signed", length);
     place[0] ^= 1;
-    expect(!signature_is_signed(message, length, place, sizeof digest, CODE), "a signature of contents of length", "signature_is_signed", length);
+    expect(!signature_is_signed(message, length, place, sizeof digest, CODE), "a spoilt digest signs, length", "signature_is_signed", length);
 }
 
 /* Messages and digests at the edges of pages and at odd addresses. */

@@ -91,7 +91,7 @@ pub struct Lister {
 
 impl Lister {
     /// A memory with data, beginnings of tables and zeros, some of it signed, if there is room sixteen signed blocks that all differ, and a ledger of
-    /// random bytes with many marks. Zeros are signed where the list begins, and at every second place of other regions that a begin may move to.
+    /// random bytes with many marks. Zeros are signed in the first places of the region, and in every second of some others that a begin may move to.
     pub fn new(seed: u64, blocks: usize) -> Lister {
         let mut random = Random::new(1000 + seed);
         let first = 256 * random.below(5) as u32;
@@ -109,10 +109,11 @@ impl Lister {
             scene.fill(position, &mut random);
             scene.sign(position);
         }
-        scene.sign_zeros(first..first + blocks as u32);
+        scene.sign_zeros(first..first + blocks.min(520) as u32);
         for elsewhere in [0, 0x200, 0x700] {
             scene.sign_zeros((elsewhere..elsewhere + blocks.min(200) as u32).step_by(2));
         }
+        assert!(scene.store.golden.len() <= 32 * 1024, "the image has too many digests");
         if seed % 15 == 7 {
             scene.store.golden.push(1);
         }

@@ -119,8 +119,7 @@ fn golden(scene: &mut Scene, random: &mut Random) {
         }
     }
     if random.below(2) == 0 {
-        let numbers: Vec<u32> = (0..scene.blocks().min(1000)).map(|position| scene.block(position)).collect();
-        scene.sign_zeros(numbers);
+        scene.sign_all_zeros();
     }
     if random.below(30) == 0 {
         scene.store.golden.push(0);

@@ -71,23 +71,30 @@ impl Executing {
 
     fn case(&self, name: &str, answer: u32, hashed: usize) -> Case {
         let name = format!("{name}, from block {:#x}", self.scene.first);
-        let case =
-            Case { name, call: self.call, store: self.scene.store.clone(), expected: Some(answer), hashed: None };
-        case.hashing(if answer == 0 { hashed as u32 } else { 0 })
+        let (call, store) = (self.call, self.scene.store.clone());
+        Case { name, call, store, expected: Some(answer), hashed: Some(hashed as u32) }
+    }
+
+    fn accepted(&self, name: &str, hashed: usize) -> Case {
+        self.case(name, 0, hashed)
+    }
+
+    fn unsigned(&self, name: &str) -> Case {
+        self.case(name, 12, 0)
     }
 }
 
 /// Each target in its place; without one of the digests; with the digests in another order.
 fn own_places(executing: &Executing, comparer: &mut Comparer) -> Outcome {
     let signed = executing.clone().signed();
-    comparer.check(signed.case("signed in their places", 0, executing.targets.len()))?;
+    comparer.check(signed.accepted("signed in their places", executing.targets.len()))?;
     let mut turned = signed.clone();
     turned.scene.store.golden = signed.scene.store.golden.chunks(32).rev().flatten().copied().collect();
-    comparer.check(turned.case("digests in another order", 0, executing.targets.len()))?;
+    comparer.check(turned.accepted("digests in another order", executing.targets.len()))?;
     for missing in [0, executing.targets.len() / 2, executing.targets.len() - 1] {
         let mut fewer = signed.clone();
         fewer.scene.store.golden.drain(32 * missing..32 * missing + 32);
-        comparer.check(fewer.case("one is not signed", 12, 0))?;
+        comparer.check(fewer.unsigned("one is not signed"))?;
     }
     Ok(())
 }
@@ -100,7 +107,7 @@ fn other_messages(executing: &Executing, comparer: &mut Comparer) -> Outcome {
         let (number, contents) = (scene.block(position), executing.contents(position));
         let mut own = executing.clone().unmarked_at(position);
         own.scene.sign(position);
-        comparer.check(own.case("the number and the contents", 0, 1))?;
+        comparer.check(own.accepted("the number and the contents", 1))?;
         let before = |number: u32| [&number.to_be_bytes(), contents].concat();
         let others = [
             ("the next number", before(number + 1)),
@@ -128,25 +135,28 @@ fn other_messages(executing: &Executing, comparer: &mut Comparer) -> Outcome {
         for (name, message) in others.into_iter().filter(|(_, message)| *message != before(number)) {
             let mut other = executing.clone().unmarked_at(position);
             other.scene.store.golden = digest(&message).to_vec();
-            comparer.check(other.case(name, 12, 0))?;
+            comparer.check(other.unsigned(name))?;
         }
     }
     Ok(())
 }
 
-/// Blocks with the same contents, of which an image signs all, or all but one.
+/// Blocks with the same contents: all signed, all but one, or only one that is no target.
 fn equal_contents(executing: &Executing, comparer: &mut Comparer) -> Outcome {
     let mut equal = executing.clone();
     equal.targets.clone().for_each(|position| equal.scene.put(position, 1023, 7));
-    comparer.check(equal.clone().signed().case("all of the same contents", 0, equal.targets.len()))?;
+    let mut signed = equal.clone().signed();
+    comparer.check(signed.accepted("all of the same contents", equal.targets.len()))?;
+    signed.scene.store.golden.drain(..32);
+    comparer.check(signed.unsigned("all of the same contents, and one is not signed"))?;
     let elsewhere = block_digest(equal.scene.block(equal.targets.end), equal.contents(equal.targets.start));
     equal.scene.store.golden.extend(elsewhere);
-    comparer.check(equal.case("the contents are signed behind the targets", 12, 0))?;
+    comparer.check(equal.unsigned("the contents are signed behind the targets"))?;
     for position in [equal.targets.start, equal.targets.end - 1] {
         let mut one = equal.clone().unmarked_at(position);
-        comparer.check(one.case("the same contents are signed elsewhere", 12, 0))?;
+        comparer.check(one.unsigned("the same contents are signed elsewhere"))?;
         one.scene.sign(position);
-        comparer.check(one.case("and here", 0, 1))?;
+        comparer.check(one.accepted("and here", 1))?;
     }
     Ok(())
 }
@@ -159,20 +169,21 @@ fn exchanged(executing: &Executing, comparer: &mut Comparer) -> Outcome {
     signed.scene.sign(one);
     signed.scene.sign(other);
     let hashed = usize::from(executing.targets.contains(&other)) + 1;
-    comparer.check(signed.case("two signed blocks", 0, hashed))?;
+    comparer.check(signed.accepted("two signed blocks", hashed))?;
     signed.scene.put(one, 1023, other as u32);
     signed.scene.put(other, 1023, one as u32);
-    comparer.check(signed.case("two signed blocks exchanged", 12, 0))?;
+    comparer.check(signed.unsigned("two signed blocks exchanged"))?;
     signed.scene.store.golden.extend(block_digest(signed.scene.block(one), executing.contents(other)));
-    comparer.check(signed.case("exchanged, and one signed there too", if hashed == 2 { 12 } else { 0 }, 1))?;
+    let half = "exchanged, and one signed there too";
+    comparer.check(if hashed == 1 { signed.accepted(half, 1) } else { signed.unsigned(half) })?;
     signed.scene.store.golden.extend(block_digest(signed.scene.block(other), executing.contents(one)));
-    comparer.check(signed.case("exchanged, and both signed there too", 0, hashed))
+    comparer.check(signed.accepted("exchanged, and both signed there too", hashed))
 }
 
 /// The same bytes in another region, under the image of the one before.
 fn moved(executing: &Executing, comparer: &mut Comparer) -> Outcome {
     let mut moved = Executing::new(executing.call.kind, executing.scene.first + 0x100);
     moved.scene.store.golden = executing.clone().signed().scene.store.golden;
-    comparer.check(moved.case("a region that has moved", 12, 0))?;
-    comparer.check(moved.signed().case("a region that has moved, signed anew", 0, executing.targets.len()))
+    comparer.check(moved.unsigned("a region that has moved"))?;
+    comparer.check(moved.signed().accepted("a region that has moved, signed anew", executing.targets.len()))
 }

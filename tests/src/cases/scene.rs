@@ -182,9 +182,9 @@ impl Scene {
         self.store.golden.extend(numbers.into_iter().flat_map(|number| block_digest(number, &[0; BLOCK])));
     }
 
-    /// A golden image that signs zeros in every place of the region, which has at most 1,024 blocks.
+    /// Adds those of all blocks of the region, of which there are at most 1,024.
     pub fn sign_all_zeros(&mut self) {
-        self.store.golden.clear();
+        assert!(self.blocks() <= 1024, "no image has as many digests");
         self.sign_zeros(self.block(0)..self.block(self.blocks()));
     }
 

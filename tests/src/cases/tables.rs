@@ -667,7 +667,7 @@ fn own_blocks(kind: Kind, comparer: &mut Comparer) -> Outcome {
             let mut scene = Scene::new(FIRST, 256);
             scene.put(table, 0, scene.mapping(0, low));
             scene.sign(table);
-            scene.sign_zeros(FIRST..FIRST + 256);
+            scene.sign_all_zeros();
             let block = FIRST + table as u32;
             comparer.check(scene.expect("an entry on its own blocks", kind, &[block], answer))?;
             scene.set_record(table + 3, TYPE, 2);
