@@ -91,7 +91,8 @@ pub struct Lister {
 
 impl Lister {
     /// A memory with data, beginnings of tables and zeros, some of it signed, if there is room sixteen signed blocks that all differ, and a ledger of
-    /// random bytes with many marks. Zeros are signed in the first places of the region, and in every second of some others that a begin may move to.
+    /// random bytes with many marks. These sixteen, and zeros in the first places, are signed where the list begins and in other regions that a begin
+    /// may move to: in one of these every second, and in one none.
     pub fn new(seed: u64, blocks: usize) -> Lister {
         let mut random = Random::new(1000 + seed);
         let first = 256 * random.below(5) as u32;
@@ -105,13 +106,15 @@ impl Lister {
         for group in (0..blocks.min(40)).step_by(4) {
             put_group(&mut scene, group, &mut random);
         }
-        for position in (48..64).filter(|_| blocks >= 64) {
+        let different = if blocks >= 64 { 48..64 } else { 0..0 };
+        for position in different.clone() {
             scene.fill(position, &mut random);
             scene.sign(position);
         }
         scene.sign_zeros(first..first + blocks.min(520) as u32);
-        for elsewhere in [0, 0x200, 0x700] {
-            scene.sign_zeros((elsewhere..elsewhere + blocks.min(200) as u32).step_by(2));
+        for (elsewhere, every) in [(0, 1), (0x100, 2), (0x700, 1)] {
+            scene.sign_zeros((elsewhere..elsewhere + blocks.min(160) as u32).step_by(every));
+            different.clone().step_by(every).for_each(|position| scene.sign_as(elsewhere + position as u32, position));
         }
         assert!(scene.store.golden.len() <= 32 * 1024, "the image has too many digests");
         if seed % 15 == 7 {

@@ -6,7 +6,7 @@ use tests::reference::Reference;
 
 /// Faults, each with the clauses that it breaks in the first list without kinds in which it breaks any. Every clause but lists 15 is broken alone by one
 /// of them.
-const UNSAFE: [(&str, &[u32]); 92] = [
+const UNSAFE: [(&str, &[u32]); 105] = [
     ("create_l2: 11 is not tested", &[7, 11]),
     ("create_l2: 11 compares new entries with the old counters only", &[7, 11]),
     ("map_l2: write onto x above 0 is taken", &[7]),
@@ -45,7 +45,7 @@ const UNSAFE: [(&str, &[u32]); 92] = [
     ("read: a fault on the walk gives 24", &[12]),
     ("write: a fault on the walk gives 24", &[12]),
     ("fetch: a fault on the walk gives 24", &[12]),
-    ("map_large: 11 looks at the first of several blocks", &[7, 11]),
+    ("map_large: 11 looks at the first of several blocks", &[7]),
     ("map_large: 12 looks at the first of several blocks", &[8, 14]),
     ("map_large: the first of several blocks alone must be D", &[10]),
     ("map_large: 7 is not tested", &[8]),
@@ -99,10 +99,23 @@ const UNSAFE: [(&str, &[u32]); 92] = [
     ("write: a write clears the mark of the L1 table", &[8, 11, 14]),
     ("write: a write of the first byte clears the mark of the block before", &[8, 11, 14]),
     ("forget: forget marks", &[14]),
+    ("map_l2: a signature in the next place is enough", &[8, 14]),
+    ("map_l2: a signature at the region's start is enough", &[8, 14]),
+    ("map_l2: a signature in the region before is enough", &[8, 14]),
+    ("map_l2: the lowest bit of the number does not count", &[8, 14]),
+    ("map_l2: of the number only the bits above the low eight count", &[8, 14]),
+    ("map_l2: the number is counted from B", &[8, 14]),
+    ("map_l2: the number is counted in its section", &[8, 14]),
+    ("map_l2: the number of the next block is hashed", &[8, 11, 14]),
+    ("map_l2: the number of the region's first block is hashed", &[8, 14]),
+    ("map_l2: the number is 0 in every place", &[8, 14]),
+    ("map_large: a signature in the region before is enough", &[8, 14]),
+    ("map_large: the number is counted from B", &[8, 14]),
+    ("map_large: the number is counted in its section", &[8, 14]),
 ];
 
 /// Faults about kinds and of calls that name them, with the clauses that each breaks in the first list with kinds in which it breaks any.
-const UNSAFE_WITH_KINDS: [(&str, &[u32]); 58] = [
+const UNSAFE_WITH_KINDS: [(&str, &[u32]); 62] = [
     ("begin: begin leaves the kinds", &[15]),
     ("begin: begin without kinds stores 0", &[15]),
     ("begin: begin without kinds stores 7", &[15]),
@@ -116,7 +129,7 @@ const UNSAFE_WITH_KINDS: [(&str, &[u32]); 58] = [
     ("begin_kinds: begin stores kinds without S and nG", &[15]),
     ("begin_kinds: 15 bytes of kinds are taken", &[15]),
     ("begin_kinds: 17 bytes of kinds are taken", &[15]),
-    ("begin_kinds: begin keeps the marks", &[8, 14]),
+    ("begin_kinds: begin keeps the marks", &[14]),
     ("begin_kinds: begin keeps w", &[9]),
     ("begin_kinds: begin keeps the active word", &[11]),
     ("create_l1: a create or free writes the first kinds", &[15]),
@@ -140,7 +153,7 @@ const UNSAFE_WITH_KINDS: [(&str, &[u32]); 58] = [
     ("map_l2_kind: 12 is not tested", &[8, 14]),
     ("map_l2_kind: 7 is not tested", &[8]),
     ("map_l2_kind: no counter is changed", &[9, 12]),
-    ("map_l2_kind: write onto x above 0 is taken", &[7, 8, 11]),
+    ("map_l2_kind: write onto x above 0 is taken", &[7]),
     ("map_l2_kind: execute onto w above 0 is taken", &[7]),
     ("map_l2_kind: the holder may be executed", &[8, 11, 14]),
     ("map_l2_kind: a writable target may have any type", &[10]),
@@ -161,6 +174,10 @@ const UNSAFE_WITH_KINDS: [(&str, &[u32]); 58] = [
     ("map_l2_kind: the bits of a kind stand one place too low", &[9]),
     ("map_l2_kind: memory that is not cached is mapped to be read only", &[9]),
     ("map_l2_kind: device memory is mapped without execute", &[9]),
+    ("map_l2_kind: a signature in the region before is enough", &[8, 11, 14]),
+    ("map_l2_kind: the number is counted from B", &[8, 11, 14]),
+    ("map_l2_kind: the number is counted in its section", &[8, 11, 14]),
+    ("map_l2_kind: the number is 0 in every place", &[8, 11, 14]),
 ];
 
 fn monitor(fault: &str) -> Seeded {

@@ -172,8 +172,13 @@ impl Scene {
 
     /// Adds the block's digest to the golden image.
     pub fn sign(&mut self, position: usize) {
-        if let Some(block) = self.store.memory.get(BLOCK * position..BLOCK * (position + 1)) {
-            self.store.golden.extend_from_slice(&block_digest(self.block(position), block));
+        self.sign_as(self.block(position), position);
+    }
+
+    /// Adds the digest that the block's contents have under this number.
+    pub fn sign_as(&mut self, number: u32, position: usize) {
+        if let Some(contents) = self.store.memory.get(BLOCK * position..BLOCK * (position + 1)) {
+            self.store.golden.extend_from_slice(&block_digest(number, contents));
         }
     }
 
