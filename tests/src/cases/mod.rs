@@ -55,15 +55,13 @@ fn rules(kind: Kind, comparer: &mut Comparer) -> Outcome {
         }
         _ => {
             reasons::run(kind, comparer)?;
+            places::run(kind, comparer)?;
             tables::run(kind, comparer)?;
             large::run(kind, comparer)?;
             reasons::pairs(kind, comparer)?;
             whole::run(kind, comparer)?;
             hostile::run(kind, comparer)?;
         }
-    }
-    if matches!(kind, Kind::CreateL1 | Kind::CreateL2 | Kind::MapL1 | Kind::MapL2 | Kind::MapLarge) {
-        places::run(kind, comparer)?;
     }
     marks::run(kind, comparer)
 }

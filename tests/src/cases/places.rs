@@ -11,6 +11,9 @@ use Kind::*;
 const FIRSTS: [u32; 4] = [0, 0x100, 0x1_0200, 0xF_FD00];
 
 pub fn run(kind: Kind, comparer: &mut Comparer) -> Outcome {
+    if !matches!(kind, CreateL1 | CreateL2 | MapL1 | MapL2 | MapLarge) {
+        return Ok(());
+    }
     for first in FIRSTS {
         let executing = Executing::new(kind, first);
         own_places(&executing, comparer)?;
