@@ -31,7 +31,7 @@ def measure(crate, log):
 # Definitions to believe: for the promises of the calls, the theorem over lists and its claim about every caller, beyond that, and what only inner functions owe each other.
 THEOREM = ("words", "signature", "entries", "rules", "monitor")
 BEYOND = ("steps", "lines", "transcript", "pagemon")
-INNER_FILES = ("entries/specs/Needs.antt", "transcript/specs/Needs.antt")
+INNER_FILES = ("signature/specs/Needs.antt", "entries/specs/Needs.antt", "transcript/specs/Needs.antt")
 BEYOND_FILES = ("rules/specs/Box.antt", "rules/specs/Policies.antt")
 
 

@@ -1,2 +1,3 @@
+pub mod Needs
 pub mod Sha256
 pub mod Signed

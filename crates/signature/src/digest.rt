@@ -7,12 +7,13 @@ use crate::padding::block_schedule;
 use crate::padding::padded_length;
 ghost use mathlib.Core.List.{_++_};
 ghost use mathlib.Core.Path.{_≡_};
-ghost use Prim.Native.Nat.{_+_, _^_, _<_};
+ghost use Prim.Native.Nat.{_+_, _<_};
 ghost use lib.ListN.{length};
+ghost use Rattle.signature.specs.Needs.{Paddable};
 ghost use Rattle.signature.specs.Sha256.{hash, digestByte, sha256};
 
 fn hash_of(head: &[u8], body: &[u8]) -> [u32; 8]
-    requires { ⌜ length (now head) + length (now body) < 2 ^ 63 + 64 ⌝ }
+    requires { ⌜ Paddable (length (now head) + length (now body)) ⌝ }
     ensures { λ r. ⌜ r ≡ hash (now (head .entry) ++ now (body .entry)) ⌝ }
 {
     let n = padded_length(head.len() + body.len()) / 64;
@@ -35,7 +36,7 @@ fn digest_byte(h: [u32; 8], i: usize) -> u8
 
 // The digest of head and body, joined.
 pub fn joined_sha_256(head: &[u8], body: &[u8]) -> [u8; 32]
-    requires { ⌜ length (now head) + length (now body) < 2 ^ 63 + 64 ⌝ }
+    requires { ⌜ Paddable (length (now head) + length (now body)) ⌝ }
     ensures { λ r. ⌜ r ≡ sha256 (now (head .entry) ++ now (body .entry)) ⌝ }
 {
     let h = hash_of(head, body);

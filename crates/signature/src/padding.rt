@@ -7,6 +7,7 @@ ghost use mathlib.Core.Path.{_≡_};
 ghost use Prim.Native.Nat.{_+_, _*_, _^_, _<_, _≤_};
 ghost use lib.ListN.{length, getD};
 ghost use Rattle.words.specs.Lists.{part};
+ghost use Rattle.signature.specs.Needs.{Paddable};
 ghost use Rattle.signature.specs.Sha256.{zeros, bigEndian, padded, schedule};
 
 fn zeros_after(n: usize) -> usize
@@ -16,7 +17,7 @@ fn zeros_after(n: usize) -> usize
 }
 
 pub fn padded_length(n: usize) -> usize
-    requires { ⌜ n < 2 ^ 63 + 64 ⌝ }
+    requires { ⌜ Paddable n ⌝ }
     ensures { λ r. ⌜ r ≡ n + 9 + zeros n ⌝ }
 {
     n + 9 + zeros_after(n)
@@ -43,7 +44,7 @@ fn message_byte(head: &[u8], body: &[u8], i: usize) -> u8
 }
 
 fn padded_byte(head: &[u8], body: &[u8], i: usize) -> u8
-    requires { ⌜ (length (now head) + length (now body) < 2 ^ 63 + 64) × (i < length (padded (now head ++ now body))) ⌝ }
+    requires { ⌜ Paddable (length (now head) + length (now body)) × (i < length (padded (now head ++ now body))) ⌝ }
     ensures { λ r. ⌜ r ≡ getD (padded (now (head .entry) ++ now (body .entry))) i 0 ⌝ }
 {
     let n = head.len() + body.len();
@@ -61,7 +62,7 @@ fn padded_byte(head: &[u8], body: &[u8], i: usize) -> u8
 }
 
 fn padded_block(head: &[u8], body: &[u8], a: usize) -> [u8; 64]
-    requires { ⌜ (length (now head) + length (now body) < 2 ^ 63 + 64) × (a + 64 ≤ length (padded (now head ++ now body))) ⌝ }
+    requires { ⌜ Paddable (length (now head) + length (now body)) × (a + 64 ≤ length (padded (now head ++ now body))) ⌝ }
     ensures { λ r. ⌜ r ≡ part (padded (now (head .entry) ++ now (body .entry))) a 64 ⌝ }
 {
     let mut b = [0u8; 64];
@@ -73,7 +74,7 @@ fn padded_block(head: &[u8], body: &[u8], a: usize) -> [u8; 64]
 
 // Block k lies in the body if neither the head nor the padding reaches into it.
 pub fn block_schedule(head: &[u8], body: &[u8], k: usize) -> [u32; 64]
-    requires { ⌜ (length (now head) + length (now body) < 2 ^ 63 + 64) × (64 * k + 64 ≤ length (padded (now head ++ now body))) ⌝ }
+    requires { ⌜ Paddable (length (now head) + length (now body)) × (64 * k + 64 ≤ length (padded (now head ++ now body))) ⌝ }
     ensures { λ r. ⌜ r ≡ schedule (part (padded (now (head .entry) ++ now (body .entry))) (64 * k) 64) 64 ⌝ }
 {
     let a = 64 * k;
