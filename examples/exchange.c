@@ -71,14 +71,14 @@ int main(void)
     memset(block(ONE), 0x2F, PAGEMON_BLOCK_BYTES);
     memset(block(TWO), 0x1E, PAGEMON_BLOCK_BYTES);
     start(FIRST);
-    map("map the first to execute", FIRST, ONE, PAGEMON_UNSIGNED);
-    map("map the second", FIRST, TWO, PAGEMON_UNSIGNED);
+    map("map the first block to execute", FIRST, ONE, PAGEMON_UNSIGNED);
+    map("map the second block", FIRST, TWO, PAGEMON_UNSIGNED);
 
     puts("in their places, in a region 256 blocks further on");
     memset(block(ONE), 0x1E, PAGEMON_BLOCK_BYTES);
     memset(block(TWO), 0x2F, PAGEMON_BLOCK_BYTES);
     start(NEXT);
-    map("map the first to execute", NEXT, ONE, PAGEMON_UNSIGNED);
+    map("map the first routine to execute", NEXT, ONE, PAGEMON_UNSIGNED);
     sign(NEXT);
     start(NEXT); /* another image takes another begin */
     map("the same, with an image made for this region", NEXT, ONE, PAGEMON_ACCEPTED);

@@ -108,7 +108,7 @@ class Golden(unittest.TestCase):
                              ["absent: No such file", "make", self.image, "1=absent"], ["one of the files", "make", code, f"1={code}"],
                              ["Is a directory", "make", self.folder, f"1={code}"]]:
             self.refused(said, *words)
-        for number in ["x", "-1", "+1", "1_0", " 1", "0x", "0b1", ""]:
+        for number in ["x", "-1", "+1", "1_0", " 1", "0x", "0b1", "", "9" * 5000]:
             self.refused("is no number of a block", "make", self.image, f"{number}={code}")
         self.assertEqual(code.read_bytes(), some_blocks(1))
         self.assertIn(b"usage", self.run_tool("--help"))
@@ -116,9 +116,18 @@ class Golden(unittest.TestCase):
 
     def test_a_full_device(self):
         self.make(f"1={self.file('code', some_blocks(1))}")
-        with open("/dev/full", "w", encoding="ascii") as full:
-            done = subprocess.run([TOOL, "check", self.image, f"1={self.folder / 'code'}"], stdout=full, stderr=subprocess.PIPE, text=True)
-        self.assertEqual((done.returncode, done.stderr), (2, "tools/golden: standard output: No space left on device; --help says more\n"))
+        code = f"1={self.folder / 'code'}"
+        for words in [["check", self.image, code], ["make", "-", code], ["--help"]]:
+            with open("/dev/full", "w", encoding="ascii") as full:
+                done = subprocess.run([TOOL, *words], stdout=full, stderr=subprocess.PIPE, text=True)
+            self.assertEqual((done.returncode, done.stderr), (2, "tools/golden: standard output: No space left on device; --help says more\n"))
+        self.refused("/dev/full: No space left", "make", "/dev/full", code)
+
+    def test_closed_streams(self):
+        self.make(f"1={self.file('code', some_blocks(1))}")
+        for words, stream in [(f"check {self.image} 1={self.folder}/code", ">&-"), (f"make - 1={self.folder}/code", ">&-"), (f"make {self.image} 1=-", "<&-")]:
+            done = subprocess.run(["bash", "-c", f"{TOOL} {words} {stream}"], stdout=subprocess.PIPE, stderr=subprocess.PIPE, text=True)
+            self.assertEqual((done.returncode, done.stdout, done.stderr.count("\n")), (2, "", 1), done.stderr)
 
     def test_exchanged_blocks(self):
         one, two = some_blocks(1, 1), some_blocks(1, 2)

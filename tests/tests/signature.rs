@@ -77,7 +77,7 @@ fn digests_of_blocks() {
         let contents = &buffer[..4096];
         let digest = block_digest(contents, number);
         assert_eq!(digest, reference.digest(&placed(number, contents)), "number {number:#x}");
-        for other in [number ^ 1, number ^ 1 << 31, number.swap_bytes().wrapping_add(1), number.wrapping_add(256)] {
+        for other in [number ^ 1, number ^ 1 << 31, number.swap_bytes(), number.wrapping_add(256)] {
             assert_eq!(is_signed(contents, &digest, other), other == number, "{number:#x} for {other:#x}");
         }
     }
