@@ -146,7 +146,7 @@ class Golden(unittest.TestCase):
         made_for = {0x100: contents[0], 0x102: contents[2], 0x103: contents[4], 0x104: contents[3], 0x106: contents[6], 0x107: some_blocks(1, 7), 0x109: bytes(BLOCK)}
         self.make(*[f"{number}={self.file(str(number), data)}" for number, data in made_for.items()])
         dump = self.file("dump", b"".join(contents))
-        for first, signed in [(0x100, [0x100, 0x102, 0x106, 0x109]), (0x200, [])]:
+        for first, signed in [(0x100, [0x100, 0x102, 0x106, 0x109]), (0x200, []), (0, [])]:
             said = self.lines(self.image, f"{first}={dump}", status=1)[:-2]
             self.assertEqual(said, [f"{number:#07x} {'signed' if number in signed else 'not signed'}" for number in range(first, first + 11)])
             done = subprocess.run([MONITOR, self.image, str(first), dump], stdout=subprocess.PIPE, text=True, check=True)

@@ -45,7 +45,7 @@ int main(int count, char **arguments)
             fprintf(stderr, "map of block %u answered %u\n", (unsigned)number, (unsigned)answer);
             return 2;
         }
-        printf("%#07x %s\n", (unsigned)number, answer == PAGEMON_ACCEPTED ? "signed" : "not signed");
+        printf("0x%05x %s\n", (unsigned)number, answer == PAGEMON_ACCEPTED ? "signed" : "not signed");
     }
     return 0;
 }

@@ -1,4 +1,4 @@
--- Laws of the padded message of FIPS 180-4, 5.1.1: how long it is, and which byte stands where.
+-- Laws of numbers as bytes and of the padded message of FIPS 180-4, 3.1 and 5.1.1: how long they are, and which byte stands where.
 use mathlib.Core.Path.{_≡_, sym, _∙_, ap}
 use mathlib.Core.List.{List, _∷_, _++_}
 use Prim.Native.Nat.{ℕ, suc, _+_, _-_, _*_, _/_, _%_, _^_, _<_, _≤_}
@@ -10,10 +10,18 @@ use Rattle.words.specs.Lists.{part}
 use Rattle.words.proofs.Lists.{length-tabulate, getD-tabulate}
 use Rattle.signature.specs.Sha256.{bigEndian, bigEndianByte, zeros, padded}
 
+pub length-bigEndian : (n v : ℕ) → length (bigEndian n v) ≡ n
+unfolding bigEndian
+length-bigEndian n v = length-tabulate (bigEndianByte n v) n
+
+pub getD-bigEndian : (n v i : ℕ) → i < n → getD (bigEndian n v) i 0 ≡ bigEndianByte n v i
+unfolding bigEndian
+getD-bigEndian n v i l = getD-tabulate (bigEndianByte n v) n i l
+
 pub length-padded : (m : List ℕ) → length (padded m) ≡ length m + 9 + zeros (length m)
-unfolding padded bigEndian
+unfolding padded
 length-padded m =
-    simp (length-append, length-replicate, length-tabulate) (omega arith)
+    simp (length-append, length-replicate, length-bigEndian) (omega arith)
 
 pub padded-message : (m : List ℕ) (i : ℕ) → i < length m → getD (padded m) i 0 ≡ getD m i 0
 unfolding padded
@@ -55,10 +63,10 @@ low-byte v k h =
     ap (λ (n : ℕ). v % 2 ^ n / 2 ^ k % 2 ^ 8) a ∙ ap (λ (n : ℕ). n % 2 ^ 8) (field v (56 - k + 8) k) ∙ mod-mod-pow (v / 2 ^ k) (56 - k) 8
 
 pub length-byte : (n j : ℕ) → j < 8 → bigEndianByte 8 (8 * (n % 2 ^ 61)) j ≡ getD (bigEndian 8 (8 * n)) j 0
-unfolding bigEndian bigEndianByte
+unfolding bigEndianByte
 length-byte n j h =
     let e : 8 * (n % 2 ^ 61) ≡ 8 * n % 2 ^ 64 = omega arith in
-    ap (λ (v : ℕ). v / 2 ^ (8 * (7 - j)) % 2 ^ 8) e ∙ low-byte (8 * n) (8 * (7 - j)) (omega arith) ∙ sym (getD-tabulate _ 8 j h)
+    ap (λ (v : ℕ). v / 2 ^ (8 * (7 - j)) % 2 ^ 8) e ∙ low-byte (8 * n) (8 * (7 - j)) (omega arith) ∙ sym (getD-bigEndian 8 (8 * n) j h)
 
 -- a part that lies in the message
 part-padded : (m : List ℕ) (a n : ℕ) → a + n ≤ length m → part (padded m) a n ≡ part m a n
@@ -71,7 +79,7 @@ module _ (head body : List ℕ) where
   pub length-joined : length (padded (head ++ body)) ≡ length head + length body + 9 + zeros (length head + length body)
   length-joined = rw (← (length-append head body)) (length-padded (head ++ body))
 
-  -- behind the head comes the body
+  -- a place behind the head, counted from its end
   behind-head : (i : ℕ) → length head ≤ i → i ≡ length head + (i - length head)
   behind-head i h = omega arith
 
