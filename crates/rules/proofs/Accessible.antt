@@ -104,34 +104,34 @@ module _ {h : Told} {s : Store} (r : Running h s) where
         inr (rw is at (arrived-accessible (writes v) addr t))
     go (no o) = inl (contents-set (s .memory) j (v % 2 ^ 8) b (λ k. omega arith))
 
-  pub guest-alters : (a : Access) (addr : ℕ) → AltersWritableOnly h s (guestOutcome a s addr .after)
+  pub guest-alters : (a : Access) (registers : List ℕ) (addr : ℕ) → AltersWritableOnly h s (guestOutcome a s registers addr .after)
   unfolding guestOutcome
-  guest-alters a addr =
-      settle-keeps (AltersWritableOnly h s) s (guestAccepted a s addr) (answerOf (guestRefusals a s addr))
-      (λ b l. inl refl) (λ e. access-alters a addr (arrived r a addr e))
+  guest-alters a registers addr =
+      settle-keeps (AltersWritableOnly h s) s (guestAccepted a s addr) (answerOf (guestRefusals a s registers addr))
+      (λ b l. inl refl) (λ e. access-alters a addr (arrived r a registers addr e))
 
   -- what is written is not executable
-  pub guest-keeps-executable : (a : Access) (addr : ℕ) → KeepsExecutable h s (guestOutcome a s addr .after)
-  guest-keeps-executable a addr b l x =
-      ⊎-elim (λ same. same) (λ as-data. absurd (safe r .exclusive b l (writable-counted b as-data) x)) (guest-alters a addr b l)
+  pub guest-keeps-executable : (a : Access) (registers : List ℕ) (addr : ℕ) → KeepsExecutable h s (guestOutcome a s registers addr .after)
+  guest-keeps-executable a registers addr b l x =
+      ⊎-elim (λ same. same) (λ as-data. absurd (safe r .exclusive b l (writable-counted b as-data) x)) (guest-alters a registers addr b l)
 
-  pub guest-keeps-working-set : (a : Access) (addr : ℕ) → KeepsWorkingSet h s (guestOutcome a s addr .after)
-  guest-keeps-working-set a addr p as-code =
+  pub guest-keeps-working-set : (a : Access) (registers : List ℕ) (addr : ℕ) → KeepsWorkingSet h s (guestOutcome a s registers addr .after)
+  guest-keeps-working-set a registers addr p as-code =
       let x = executable-counted p as-code in
       let at : p - h .B ≡ x .block = omega (arith, x .is) in
-      rw at (guest-keeps-executable a addr (x .block) (x .inside) (x .some-entry))
+      rw at (guest-keeps-executable a registers addr (x .block) (x .inside) (x .some-entry))
 
   -- no table is written, so that every walk reads the entries it read before
-  pub guest-keeps-walks : (a : Access) (addr : ℕ) → KeepsWalks h s (guestOutcome a s addr .after)
-  guest-keeps-walks a addr table va root =
+  pub guest-keeps-walks : (a : Access) (registers : List ℕ) (addr : ℕ) → KeepsWalks h s (guestOutcome a s registers addr .after)
+  guest-keeps-walks a registers addr table va root =
       rw (r .told-base) (walk-same r va mem kept table (rw (r .told-base) at root)) where
         mem : List ℕ
-        mem = guestOutcome a s addr .after .memory
+        mem = guestOutcome a s registers addr .after .memory
 
         kept : (v : Level) (j : ℕ) → (j < blockWords * blocks s) × (h .types (base s + j / blockWords) ≡ typeCode v) → entryAt v mem j ≡ entryAt v (s .memory) j
         kept v j (inside, typed) =
             let b = j / blockWords in
-            contents-entry v mem (s .memory) b j (guest-guarded r a addr b (omega arith) (λ z. not-data v (sym typed ∙ rw (r .told-base) at z))) refl
+            contents-entry v mem (s .memory) b j (guest-guarded r a registers addr b (omega arith) (λ z. not-data v (sym typed ∙ rw (r .told-base) at z))) refl
 
   -- what is fetched is executed
   fetches-code : (addr : ℕ) → Arrived h s fetches addr → FetchedCode h s addr (byteGiven fetches (s .memory) (byteIndex (base s) addr (activeWalk s addr)))
@@ -145,9 +145,9 @@ module _ {h : Told} {s : Store} (r : Running h s) where
         signs = integrity (t .block) as-code;
       }
 
-  pub guest-fetches-code : (addr : ℕ) → guestOutcome fetches s addr .answer ≡ 0 → FetchedCode h s addr (guestOutcome fetches s addr .byte)
+  pub guest-fetches-code : (registers : List ℕ) (addr : ℕ) → guestOutcome fetches s registers addr .answer ≡ 0 → FetchedCode h s addr (guestOutcome fetches s registers addr .byte)
   unfolding guestOutcome
-  guest-fetches-code addr e =
+  guest-fetches-code registers addr e =
       let (accepted, _, byte) =
-      settle-accepted s (guestAccepted fetches s addr) (answerOf (guestRefusals fetches s addr)) e in
-      rw byte (fetches-code addr (arrived r fetches addr accepted))
+      settle-accepted s (guestAccepted fetches s addr) (answerOf (guestRefusals fetches s registers addr)) e in
+      rw byte (fetches-code addr (arrived r fetches registers addr accepted))

@@ -22,6 +22,7 @@ use Rattle.rules.specs.Link.{linkRefusals, linkOutcome}
 use Rattle.rules.specs.Unmap.{unmapRefusals, unmapOutcome}
 use Rattle.rules.specs.Switch.{switchRefusals, switchOutcome}
 use Rattle.rules.specs.Forget.{forgetRefusals, forgetOutcome}
+use Rattle.rules.specs.Registers.{acknowledgeRefusals, acknowledgeOutcome}
 use Rattle.rules.specs.Guest.{Walk, stops, ends, passes, follow, walk, Access, walkRefusals, guestRefusals, guestOutcome}
 use Rattle.rules.proofs.Passing.{settle-answer}
 
@@ -117,6 +118,10 @@ pub forget-lowest : (s : Store) (p m : ℕ) → Lowest (forgetRefusals s p m) (f
 unfolding forgetOutcome
 forget-lowest s p m = settled (forgetRefusals s p m) _ _ refl
 
+pub acknowledge-lowest : (s : Store) (registers : List ℕ) → Lowest (acknowledgeRefusals registers) (acknowledgeOutcome s registers .answer)
+unfolding acknowledgeOutcome
+acknowledge-lowest s registers = settled (acknowledgeRefusals registers) _ _ refl
+
 -- The guest's accesses: after 1 and 21 comes what the walk says
 
 -- a walk ends, or stops with 22 or 24
@@ -146,10 +151,10 @@ pub walk-numbered : (B n : ℕ) (memory : List ℕ) (table addr : ℕ) → Numbe
 unfolding walk
 walk-numbered B n memory table addr = passes-numbered _ B n _ _ (follow-numbered B n memory addr _)
 
-pub guest-lowest : (a : Access) (s : Store) (addr : ℕ) → Lowest (guestRefusals a s addr) (guestOutcome a s addr .answer)
+pub guest-lowest : (a : Access) (s : Store) (registers : List ℕ) (addr : ℕ) → Lowest (guestRefusals a s registers addr) (guestOutcome a s registers addr .answer)
 unfolding guestOutcome walkRefusals
-guest-lowest a s addr = settled (guestRefusals a s addr) _ _ (go (walk-numbered _ _ _ _ addr)) where
-  go : {w : Walk} → Numbered w → ascends (1 ∷ 21 ∷ numbers (walkRefusals a w)) ≡ true
+guest-lowest a s registers addr = settled (guestRefusals a s registers addr) _ _ (go (walk-numbered _ _ _ _ addr)) where
+  go : {w : Walk} → Numbered w → ascends (1 ∷ 1 ∷ 21 ∷ numbers (walkRefusals a w)) ≡ true
   go at-end = refl
   go with-22 = refl
   go with-24 = refl

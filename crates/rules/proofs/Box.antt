@@ -1,4 +1,4 @@
--- Lists 7 to 12, 14 and 15 hold on a box, where the guest's processor writes by itself: a block that it can write is not marked, but for
+-- Lists 7 to 12 and 14 to 16 hold on a box, where the guest's processor writes by itself: a block that it can write is not marked, but for
 -- those that are forgotten at once.
 use mathlib.Core.Bool.{Bool, true, false, false≢true}
 use mathlib.Core.List.{List, [], _∷_}
@@ -11,11 +11,12 @@ use Rattle.rules.specs.Outcomes.{Outcome}
 use Rattle.rules.specs.Guest.{Access, guestOutcome}
 use Rattle.rules.specs.Begin.{beginOutcome}
 use Rattle.rules.specs.Forget.{forgetOutcome}
-use Rattle.rules.specs.Steps.{Step, begins, creates, frees, maps, links, unmaps, switches, accesses, forgets, obey, Told, begun, afterAccepted, afterAnswer}
+use Rattle.rules.specs.Steps.{Step, begins, creates, frees, maps, links, unmaps, switches, accesses, acknowledges, forgets, obey, Told, begun, afterAccepted, afterAnswer}
 use Rattle.rules.specs.Box.{untold, onBox, grantsWrite, Forgotten, at-once, then, Dutiful, Box-holds}
 use Rattle.rules.proofs.State.{recorded, MarkedAt, Running, Grows, Next, next-blocks}
 use Rattle.rules.proofs.Starting.{begin-accepted, begin-unmarked, forgotten-unmarked}
 use Rattle.rules.proofs.Guests.{guest-next-unmarked, guest-fetched}
+use Rattle.rules.proofs.Acknowledging.{acknowledge-after}
 use Rattle.rules.proofs.Lists.{Keeps, claimed}
 use Rattle.rules.proofs.Demand3.{next-at, afterAnswer-golden}
 
@@ -35,7 +36,8 @@ module _ (golden : List ℕ) where
   isForget (links p i t j) = false
   isForget (unmaps f p i) = false
   isForget (switches p) = false
-  isForget (accesses a addr) = false
+  isForget (accesses a registers addr) = false
+  isForget (acknowledges registers) = false
   isForget (forgets p m) = true
 
   forgetsFirst : List Step → Bool
@@ -113,22 +115,22 @@ module _ (golden : List ℕ) where
         later b k (then more) = more
 
   -- the processor's own access: no block that it can write is marked
-  spared : {h : Told} {s : Store} {a : Access} {addr : ℕ} {steps : List Step} → Duty h s (accesses a addr ∷ steps) → (b : ℕ) → b < blocks s → 0 < recorded s writable b → MarkedAt s b → ⊥
+  spared : {h : Told} {s : Store} {a : Access} {registers : List ℕ} {addr : ℕ} {steps : List Step} → Duty h s (accesses a registers addr ∷ steps) → (b : ℕ) → b < blocks s → 0 < recorded s writable b → MarkedAt s b → ⊥
   unfolding isForget forgetsFirst
   spared d b l w k = false≢true (forget-first (d .owed b l w k))
 
-  access-onward : {h : Told} {s : Store} (a : Access) (addr : ℕ) {steps : List Step} → Duty h s (accesses a addr ∷ steps)
-      → Duty (afterAnswer (onBox golden s (accesses a addr) .answer) h (accesses a addr)) (onBox golden s (accesses a addr) .after) steps
+  access-onward : {h : Told} {s : Store} (a : Access) (registers : List ℕ) (addr : ℕ) {steps : List Step} → Duty h s (accesses a registers addr ∷ steps)
+      → Duty (afterAnswer (onBox golden s (accesses a registers addr) .answer) h (accesses a registers addr)) (onBox golden s (accesses a registers addr) .after) steps
   unfolding Dutiful onBox obey afterAnswer afterAccepted
-  access-onward {h} {s} a addr {steps} d =
-      let o = guestOutcome a s addr in
+  access-onward {h} {s} a registers addr {steps} d =
+      let o = guestOutcome a s registers addr in
       record {
-        same-golden = afterAnswer-golden (o .answer) h (accesses a addr) ∙ d .same-golden;
-        runs = silent (o .answer) (guest-next-unmarked (d .runs) a addr (spared d) .0);
+        same-golden = afterAnswer-golden (o .answer) h (accesses a registers addr) ∙ d .same-golden;
+        runs = silent (o .answer) (guest-next-unmarked (d .runs) a registers addr (spared d) .0);
         dutiful = d .dutiful .1;
-        owed = λ b l w k. absurd (spared d b (rw (next-blocks (next-at golden (d .same-golden) (d .runs) (accesses a addr))) at l) w k);
+        owed = λ b l w k. absurd (spared d b (rw (next-blocks (next-at golden (d .same-golden) (d .runs) (accesses a registers addr))) at l) w k);
       } where
-        silent : (answer : ℕ) → Running h (untold s (guestOutcome a s addr) .after) → Running (afterAnswer answer h (accesses a addr)) (untold s (guestOutcome a s addr) .after)
+        silent : (answer : ℕ) → Running h (untold s (guestOutcome a s registers addr) .after) → Running (afterAnswer answer h (accesses a registers addr)) (untold s (guestOutcome a s registers addr) .after)
         silent zero r = r
         silent (suc k) r = r
 
@@ -141,7 +143,8 @@ module _ (golden : List ℕ) where
   onward (links p i t j) d = call-onward (links p i t j) d refl refl (λ q g. absurd (false≢true g))
   onward (unmaps f p i) d = call-onward (unmaps f p i) d refl refl (λ q g. absurd (false≢true g))
   onward (switches p) d = call-onward (switches p) d refl refl (λ q g. absurd (false≢true g))
-  onward (accesses a addr) d = access-onward a addr d
+  onward (accesses a registers addr) d = access-onward a registers addr d
+  onward (acknowledges registers) d = call-onward (acknowledges registers) d refl refl (λ q g. absurd (false≢true g))
   onward (forgets p m) d = forget-onward p m d
 
   -- the processor's own access answers as the call would
@@ -154,7 +157,8 @@ module _ (golden : List ℕ) where
   same-answer s (links p i t j) = refl
   same-answer s (unmaps f p i) = refl
   same-answer s (switches p) = refl
-  same-answer s (accesses a addr) = refl
+  same-answer s (accesses a registers addr) = refl
+  same-answer s (acknowledges registers) = refl
   same-answer s (forgets p m) = refl
 
   box-keeps : Keeps (onBox golden) Duty
@@ -164,8 +168,9 @@ module _ (golden : List ℕ) where
         runs = λ d. d .runs;
         onward = λ {h} {s} {step} {steps} d. onward step d;
         avoids = λ {h} {s} {step} {steps} d. let n = next-at golden (d .same-golden) (d .runs) step in rw (same-answer s step) (n .not-13, n .not-24);
-        guarded = λ {h} {s} {a} {addr} {steps} d. guest-next-unmarked (d .runs) a addr (spared d) .1;
-        fetched = λ {h} {s} {addr} {steps} d zero-is. guest-fetched (d .runs) addr zero-is;
+        guarded = λ {h} {s} {a} {registers} {addr} {steps} d. guest-next-unmarked (d .runs) a registers addr (spared d) .1;
+        fetched = λ {h} {s} {registers} {addr} {steps} d zero-is. guest-fetched (d .runs) registers addr zero-is;
+        untouched = acknowledge-after;
       }
 
   -- nothing is owed at the end of a list, so that no block is both writable and marked; and any list whose duty is done can begin there

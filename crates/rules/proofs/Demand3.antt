@@ -1,4 +1,4 @@
--- Lists 7 to 12, 14 and 15 hold of every list: each step keeps the invariant, and the invariant says what they say of a moment.
+-- Lists 7 to 12 and 14 to 16 hold of every list: each step keeps the invariant, and the invariant says what they say of a moment.
 use mathlib.Core.List.{List, [], _∷_}
 use mathlib.Core.Option.{some}
 use mathlib.Core.Path.{_≡_, refl, _∙_, subst}
@@ -6,7 +6,7 @@ use Prim.Native.Nat.{ℕ, zero, suc}
 use lib.ListN.{length, take, getElem?}
 use lib.Seq.{take-length}
 use Rattle.rules.specs.Store.{Store}
-use Rattle.rules.specs.Steps.{Step, begins, creates, frees, maps, links, unmaps, switches, accesses, forgets, obey, run, Told, begun, afterAccepted, afterAnswer, history}
+use Rattle.rules.specs.Steps.{Step, begins, creates, frees, maps, links, unmaps, switches, accesses, acknowledges, forgets, obey, run, Told, begun, afterAccepted, afterAnswer, history}
 use Rattle.rules.specs.Demand3.{Safe, Demand3, Demand3-holds}
 use Rattle.rules.proofs.State.{Running, Next}
 use Rattle.rules.proofs.Lists.{Keeps, reached as reachedBy, Moment, moment as momentBy, claimed}
@@ -17,6 +17,7 @@ use Rattle.rules.proofs.Unmapping.{unmap-next}
 use Rattle.rules.proofs.Linking.{link-next}
 use Rattle.rules.proofs.Mapping.{map-next}
 use Rattle.rules.proofs.Guests.{guest-next, guest-guarded, guest-fetched}
+use Rattle.rules.proofs.Acknowledging.{acknowledge-after, acknowledge-next}
 
 -- one step, whatever it is
 pub step-next : {h : Told} {s : Store} → Running h s → (step : Step) → Next h s step (obey (h .golden) s step)
@@ -28,7 +29,8 @@ step-next r (maps f p i t q k) = map-next f p i t q k r
 step-next r (links p i t j) = link-next p i t j r
 step-next r (unmaps f p i) = unmap-next f p i r
 step-next r (switches p) = switch-next r p
-step-next r (accesses a addr) = guest-next r a addr
+step-next r (accesses a registers addr) = guest-next r a registers addr
+step-next r (acknowledges registers) = acknowledge-next r registers
 step-next r (forgets p m) = forget-next r p m
 
 -- no step changes the golden image
@@ -41,7 +43,8 @@ afterAnswer-golden zero h (maps f p i t q k) = refl
 afterAnswer-golden zero h (links p i t j) = refl
 afterAnswer-golden zero h (unmaps f p i) = refl
 afterAnswer-golden zero h (switches p) = refl
-afterAnswer-golden zero h (accesses a addr) = refl
+afterAnswer-golden zero h (accesses a registers addr) = refl
+afterAnswer-golden zero h (acknowledges registers) = refl
 afterAnswer-golden zero h (forgets p m) = refl
 afterAnswer-golden (suc k) h step = refl
 
@@ -67,8 +70,9 @@ module _ (golden : List ℕ) where
         runs = λ g. g .1;
         onward = λ {h} {s} {step} {steps} g. (afterAnswer-golden (obey golden s step .answer) h step ∙ g .0, next-at (g .0) (g .1) step .runs);
         avoids = λ {h} {s} {step} {steps} g. let n = next-at (g .0) (g .1) step in (n .not-13, n .not-24);
-        guarded = λ {h} {s} {a} {addr} {steps} g. guest-guarded (g .1) a addr;
-        fetched = λ {h} {s} {addr} {steps} g zero-is. guest-fetched (g .1) addr zero-is;
+        guarded = λ {h} {s} {a} {registers} {addr} {steps} g. guest-guarded (g .1) a registers addr;
+        fetched = λ {h} {s} {registers} {addr} {steps} g zero-is. guest-fetched (g .1) registers addr zero-is;
+        untouched = acknowledge-after;
       }
 
   -- the states reached by a list of calls, and one of its steps

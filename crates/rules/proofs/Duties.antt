@@ -12,7 +12,7 @@ use Rattle.entries.specs.Entries.{Entry}
 use Rattle.rules.specs.Store.{Store, blocks, base, writable}
 use Rattle.rules.specs.Tables.{tableEntries, tableEntry, mappingWords, mapping, gain, astray}
 use Rattle.rules.specs.Forget.{forgetOutcome}
-use Rattle.rules.specs.Steps.{Step, begins, creates, frees, maps, links, unmaps, switches, accesses, forgets, obey, Told, afterAccepted, afterAnswer}
+use Rattle.rules.specs.Steps.{Step, begins, creates, frees, maps, links, unmaps, switches, accesses, acknowledges, forgets, obey, Told, afterAccepted, afterAnswer}
 use Rattle.rules.specs.Box.{onBox, grantsWrite, Forgotten, at-once, Dutiful, owesForget, forgetAll, careful, Duty-can-be-done}
 use Rattle.rules.proofs.Gains.{grants-place, gives-within, gain-found}
 use Rattle.rules.proofs.State.{Running, next-blocks}
@@ -61,7 +61,8 @@ module _ (golden : List ℕ) where
   granted-within d (links p i t j) zero-is q g = absurd (false≢true g)
   granted-within d (unmaps f p i) zero-is q g = absurd (false≢true g)
   granted-within d (switches p) zero-is q g = absurd (false≢true g)
-  granted-within d (accesses a addr) zero-is q g = absurd (false≢true g)
+  granted-within d (accesses a registers addr) zero-is q g = absurd (false≢true g)
+  granted-within d (acknowledges registers) zero-is q g = absurd (false≢true g)
   granted-within d (forgets p m) zero-is q g = absurd (false≢true g)
 
   -- a forget of the whole region behind a step does the duty

@@ -28,6 +28,7 @@ use Rattle.rules.specs.Guest.{ends, walk, fetches, needed}
 use Rattle.rules.specs.Steps.{Step, creates, maps, links, switches, accesses, obey, run, runBy, typed, afterAccepted}
 use Rattle.rules.specs.Demand3.{Fetched, storeAt, toldAt}
 use Rattle.rules.specs.Policies.{FetchedCode}
+use Rattle.rules.specs.Registers.{clearRegisters}
 use Rattle.rules.proofs.Refusals.{Passed, done, step}
 use Rattle.rules.proofs.Gains.{gain-none}
 use Rattle.rules.proofs.Ledger.{marks-clear, typed-in, typed-out}
@@ -43,7 +44,7 @@ use Rattle.rules.proofs.SmallStores.{ledger, smallStore}
 use Rattle.rules.proofs.Blank.{golden, lawful, page-signed, begins-zeros, started, toldOf, Zeros, zeros-started, blank, eight, uncounted, create-zeros}
 
 abbrev pub toFetch : List Step
-toFetch = creates l1 0 ∷ creates l2 4 ∷ links 0 0 4 0 ∷ maps pages 4 0 5 5 firstKind ∷ switches 0 ∷ accesses fetches 0 ∷ []
+toFetch = creates l1 0 ∷ creates l2 4 ∷ links 0 0 4 0 ∷ maps pages 4 0 5 5 firstKind ∷ switches 0 ∷ accesses fetches clearRegisters 0 ∷ []
 
 -- the types once there are an L1 table and an L2 block
 abbrev withL1 : ℕ → ℕ
@@ -128,12 +129,12 @@ module _ {s : Store} (z : Zeros withBoth s) where
   switched : Taken (toldOf withBoth none) ready (switches 0) (switchAfter ready 0)
   switched = switch-taken (mapped .runs) 0 (record { low = omega arith; high = omega (arith, mapped .alone .high); aligned = refl; typed = is-L1 })
 
-  fetched : obey golden (obey golden ready (switches 0) .after) (accesses fetches 0) .answer ≡ 0
+  fetched : obey golden (obey golden ready (switches 0) .after) (accesses fetches clearRegisters 0) .answer ≡ 0
   unfolding obey afterAccepted allows needed
   fetched =
       let after = obey golden ready (switches 0) .after in
       let walked : walk 0 (blocks after) (after .memory) 0 0 ≡ ends l2 5 5 = rw (switched .leaves) leads in
-      access-accepted (switched .runs) fetches 0 refl walked refl
+      access-accepted (switched .runs) fetches clearRegisters 0 refl walked refl refl
 
 pub fetch-accepted : run golden started toFetch .answers ≡ (0 ∷ 0 ∷ 0 ∷ 0 ∷ 0 ∷ 0 ∷ [])
 unfolding runBy typed
@@ -151,8 +152,8 @@ sixth-accepted = ap (λ (ks : List ℕ). getElem? ks 5) fetch-accepted
 
 pub byte-fetched : Fetched (toldAt golden cachedKinds 0 started toFetch 5) (storeAt golden started toFetch 5) 0 byte
 unfolding runBy
-byte-fetched = demand3 golden (smallStore 0 ledger) cachedKinds 0 begins-zeros toFetch .fetched 5 0 byte refl sixth-accepted refl
+byte-fetched = demand3 golden (smallStore 0 ledger) cachedKinds 0 begins-zeros toFetch .fetched 5 clearRegisters 0 byte refl sixth-accepted refl
 
 pub code-fetched : FetchedCode (toldAt golden cachedKinds 0 started toFetch 5) (storeAt golden started toFetch 5) 0 byte
 unfolding runBy
-code-fetched = policies golden (smallStore 0 ledger) cachedKinds 0 begins-zeros toFetch .fetched 5 0 byte refl sixth-accepted refl
+code-fetched = policies golden (smallStore 0 ledger) cachedKinds 0 begins-zeros toFetch .fetched 5 clearRegisters 0 byte refl sixth-accepted refl

@@ -21,6 +21,7 @@ use Rattle.rules.specs.Store.{blockBytes, blockWords, basePlace, activeP
 use Rattle.rules.specs.Signature.{contents}
 use Rattle.rules.specs.Tables.{typeD, tableBlocks, grants, gives}
 use Rattle.rules.specs.General.{tableOutside, misaligned}
+use Rattle.rules.specs.Registers.{misfitRegisters}
 use Rattle.rules.specs.Guest.{Walk, stops, ends, byteIndex, Access, reads, fetches, writes, needed, walkRefusals, noActiveTable, activeWalk, guestRefusals, written, unmarked, byteGiven, guestAccepted, guestOutcome}
 use Rattle.rules.specs.Steps.{accesses, Told, afterAccepted}
 use Rattle.rules.specs.Demand3.{KeepsTables, Fetched}
@@ -40,10 +41,11 @@ walk-avoids B n E a (stops v j) e k n22 n23 = (λ q. n22 (sym e ∙ q), tt)
 walk-avoids B n E a (ends v p r) e k n22 n23 = (n23, tt)
 
 -- 21 answers before the walk does
-barred : (t : Bool) (rs : List Refusal) (k : ℕ) → 1 ≢ k → 21 ≢ k → answerOf (1 if t ∷ 21 if true ∷ rs) ≢ k
+barred : (t u : Bool) (rs : List Refusal) (k : ℕ) → 1 ≢ k → 21 ≢ k → answerOf (1 if t ∷ 1 if u ∷ 21 if true ∷ rs) ≢ k
 unfolding answerOf
-barred true rs k n1 n21 = n1
-barred false rs k n1 n21 = n21
+barred true u rs k n1 n21 = n1
+barred false true rs k n1 n21 = n1
+barred false false rs k n1 n21 = n21
 
 -- an accepted access: the table switched to, the walk's end, and the right that the access needs
 pub record Arrived (h : Told) (s : Store) (a : Access) (addr : ℕ) : Type 0 where
@@ -68,18 +70,18 @@ module _ {h : Told} {s : Store} (r : Running h s) where
     go none q = let z : ⊥ = omega (arith, inside, r .fit, r .active-is ∙ ap activeWord q) in absurd z
     go (some p) q = (p, q, r .active-is ∙ ap activeWord q)
 
-  module _ (a : Access) (addr : ℕ) where
+  module _ (a : Access) (registers : List ℕ) (addr : ℕ) where
     sensible : noActiveTable s ≡ false → Sensible (base s) (blocks s) (entryOf (base s) h (s .memory)) (activeWalk s addr)
     sensible e = let (p, q, is) = the-table e in rw is (walk-sensible r addr p (r .root p q))
 
     -- no other number answers
-    guest-avoids : (k : ℕ) → (0 ≢ k) × (1 ≢ k) × (21 ≢ k) × (22 ≢ k) × (23 ≢ k) → answerOf (guestRefusals a s addr) ≢ k
+    guest-avoids : (k : ℕ) → (0 ≢ k) × (1 ≢ k) × (21 ≢ k) × (22 ≢ k) × (23 ≢ k) → answerOf (guestRefusals a s registers addr) ≢ k
     guest-avoids k (n0, n1, n21, n22, n23) = go (noActiveTable s) refl where
-      go : (t : Bool) → noActiveTable s ≡ t → answerOf (1 if misfitStored s ∷ 21 if t ∷ walkRefusals a (activeWalk s addr)) ≢ k
-      go true e = barred (misfitStored s) (walkRefusals a (activeWalk s addr)) k n1 n21
+      go : (t : Bool) → noActiveTable s ≡ t → answerOf (1 if misfitStored s ∷ 1 if misfitRegisters registers ∷ 21 if t ∷ walkRefusals a (activeWalk s addr)) ≢ k
+      go true e = barred (misfitStored s) (misfitRegisters registers) (walkRefusals a (activeWalk s addr)) k n1 n21
       go false e =
-          avoided k (1 if misfitStored s ∷ 21 if false ∷ walkRefusals a (activeWalk s addr)) n0
-          (n1, (n21, walk-avoids (base s) (blocks s) (entryOf (base s) h (s .memory)) a (activeWalk s addr) (sensible e) k n22 n23))
+          avoided k (1 if misfitStored s ∷ 1 if misfitRegisters registers ∷ 21 if false ∷ walkRefusals a (activeWalk s addr)) n0
+          (n1, (n1, (n21, walk-avoids (base s) (blocks s) (entryOf (base s) h (s .memory)) a (activeWalk s addr) (sensible e) k n22 n23)))
 
     arrives : noActiveTable s ≡ false → (w : Walk) → activeWalk s addr ≡ w → Passed (walkRefusals a w) → Arrived h s a addr
     unfolding walkRefusals
@@ -88,14 +90,14 @@ module _ {h : Told} {s : Store} (r : Running h s) where
         let (table, switched, actives) = the-table e in
         record { table = table; level = v; block = p; given = w; switched = switched; actives = actives; walked = q; allowed = not-false (allows w (needed a)) (now t); reached = rw q at (sensible e) }
 
-    pub arrived : answerOf (guestRefusals a s addr) ≡ 0 → Arrived h s a addr
+    pub arrived : answerOf (guestRefusals a s registers addr) ≡ 0 → Arrived h s a addr
     arrived accepted = go (noActiveTable s) refl where
       go : (t : Bool) → noActiveTable s ≡ t → Arrived h s a addr
-      go true e = absurd (barred (misfitStored s) (walkRefusals a (activeWalk s addr)) 0 (λ q. omega arith) (λ q. omega arith) (rw e at accepted))
+      go true e = absurd (barred (misfitStored s) (misfitRegisters registers) (walkRefusals a (activeWalk s addr)) 0 (λ q. omega arith) (λ q. omega arith) (rw e at accepted))
       go false e =
           let numbered = walk-avoids (base s) (blocks s) (entryOf (base s) h (s .memory)) a (activeWalk s addr) (sensible e) 0 (λ q. omega arith) (λ q. omega arith) in
-          let t = passed (guestRefusals a s addr) ((λ q. omega arith), ((λ q. omega arith), numbered)) accepted in
-          arrives e (activeWalk s addr) refl (rest (rest t))
+          let t = passed (guestRefusals a s registers addr) ((λ q. omega arith), ((λ q. omega arith), ((λ q. omega arith), numbered))) accepted in
+          arrives e (activeWalk s addr) refl (rest (rest (rest t)))
 
   -- the entry that a walk ended at is counted for what it grants
   pub arrived-counted : (c : Counter) {p w : ℕ} (e : Reached (base s) (blocks s) (entryOf (base s) h (s .memory)) p w)
@@ -243,31 +245,31 @@ module _ {h : Told} {s : Store} (r : Running h s) where
         signs = rw (r .told-base) (rw is at (r .consistent .signs (t .block - base s) (omega arith) runs));
       }
 
-  pub guest-next : (a : Access) (addr : ℕ) → Next h s (accesses a addr) (guestOutcome a s addr)
+  pub guest-next : (a : Access) (registers : List ℕ) (addr : ℕ) → Next h s (accesses a registers addr) (guestOutcome a s registers addr)
   unfolding guestOutcome afterAccepted
-  guest-next a addr =
-      next (accesses a addr) (guestAccepted a s addr) (answerOf (guestRefusals a s addr)) r
-      (guest-avoids a addr 13 (omega arith))
-      (guest-avoids a addr 24 (omega arith))
-      (λ e. guest-keeps a addr (grantsWrite s (accesses a addr)) (arrived a addr e) .0)
+  guest-next a registers addr =
+      next (accesses a registers addr) (guestAccepted a s addr) (answerOf (guestRefusals a s registers addr)) r
+      (guest-avoids a registers addr 13 (omega arith))
+      (guest-avoids a registers addr 24 (omega arith))
+      (λ e. guest-keeps a addr (grantsWrite s (accesses a registers addr)) (arrived a registers addr e) .0)
 
-  pub guest-guarded : (a : Access) (addr : ℕ) → KeepsTables h s (guestOutcome a s addr .after)
+  pub guest-guarded : (a : Access) (registers : List ℕ) (addr : ℕ) → KeepsTables h s (guestOutcome a s registers addr .after)
   unfolding guestOutcome
-  guest-guarded a addr =
-      settle-keeps (KeepsTables h s) s (guestAccepted a s addr) (answerOf (guestRefusals a s addr))
-      (λ b l n. refl) (λ e. guest-keeps a addr (λ q. false) (arrived a addr e) .1)
+  guest-guarded a registers addr =
+      settle-keeps (KeepsTables h s) s (guestAccepted a s addr) (answerOf (guestRefusals a s registers addr))
+      (λ b l n. refl) (λ e. guest-keeps a addr (λ q. false) (arrived a registers addr e) .1)
 
   -- the same for the processor's own
-  pub guest-next-unmarked : (a : Access) (addr : ℕ) → ((b : ℕ) → b < blocks s → 0 < recorded s writable b → MarkedAt s b → ⊥)
-      → (let after = untold s (guestOutcome a s addr) .after in Running h after × KeepsTables h s after)
+  pub guest-next-unmarked : (a : Access) (registers : List ℕ) (addr : ℕ) → ((b : ℕ) → b < blocks s → 0 < recorded s writable b → MarkedAt s b → ⊥)
+      → (let after = untold s (guestOutcome a s registers addr) .after in Running h after × KeepsTables h s after)
   unfolding guestOutcome
-  guest-next-unmarked a addr spared =
-      settle-keeps (λ now. let after : Store = record { memory = now .memory; ledger = s .ledger } in Running h after × KeepsTables h s after) s (guestAccepted a s addr) (answerOf (guestRefusals a s addr))
-      (r, λ b l n. refl) (λ e. guest-keeps-unmarked a addr (arrived a addr e) spared)
+  guest-next-unmarked a registers addr spared =
+      settle-keeps (λ now. let after : Store = record { memory = now .memory; ledger = s .ledger } in Running h after × KeepsTables h s after) s (guestAccepted a s addr) (answerOf (guestRefusals a s registers addr))
+      (r, λ b l n. refl) (λ e. guest-keeps-unmarked a addr (arrived a registers addr e) spared)
 
-  pub guest-fetched : (addr : ℕ) → guestOutcome fetches s addr .answer ≡ 0 → Fetched h s addr (guestOutcome fetches s addr .byte)
+  pub guest-fetched : (registers : List ℕ) (addr : ℕ) → guestOutcome fetches s registers addr .answer ≡ 0 → Fetched h s addr (guestOutcome fetches s registers addr .byte)
   unfolding guestOutcome
-  guest-fetched addr e =
+  guest-fetched registers addr e =
       let (accepted, _, byte) =
-      settle-accepted s (guestAccepted fetches s addr) (answerOf (guestRefusals fetches s addr)) e in
-      rw byte (guest-fetches addr (arrived fetches addr accepted))
+      settle-accepted s (guestAccepted fetches s addr) (answerOf (guestRefusals fetches s registers addr)) e in
+      rw byte (guest-fetches addr (arrived fetches registers addr accepted))

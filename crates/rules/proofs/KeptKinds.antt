@@ -11,6 +11,7 @@ use Rattle.rules.specs.Outcomes.{Accepted, settle}
 use Rattle.rules.specs.Tables.{tableBlocks, tableEntries, tableEntry}
 use Rattle.rules.specs.General.{Change, added, removed, typeAfter, recounted, retyped}
 use Rattle.rules.specs.Guest.{Access, reads, writes, fetches, unmarked, guestOutcome}
+use Rattle.rules.specs.Registers.{acknowledgeOutcome}
 use Rattle.rules.specs.Create.{createOutcome}
 use Rattle.rules.specs.Free.{freeOutcome}
 use Rattle.rules.specs.Map.{mapOutcome}
@@ -18,7 +19,7 @@ use Rattle.rules.specs.Link.{linkOutcome}
 use Rattle.rules.specs.Unmap.{unmapOutcome}
 use Rattle.rules.specs.Switch.{switchOutcome}
 use Rattle.rules.specs.Forget.{forgetOutcome}
-use Rattle.rules.specs.Steps.{Step, begins, creates, frees, maps, links, unmaps, switches, accesses, forgets, obey}
+use Rattle.rules.specs.Steps.{Step, begins, creates, frees, maps, links, unmaps, switches, accesses, acknowledges, forgets, obey}
 use Rattle.rules.proofs.Ledger.{kinds-putWord, kinds-retype, marks-clear, marks-clear-all, marks-set}
 use Rattle.rules.proofs.Changes.{kinds-recounted}
 
@@ -48,7 +49,7 @@ module _ (s : Store) where
   access-keeps (writes v) j = marks-clear (s .ledger) _ .kinds-are
 
   pub kinds-stay : (golden : List ℕ) (step : Step) → ((kinds : List ℕ) (B : ℕ) → step ≢ begins kinds B) → Kept (obey golden s step .after .ledger)
-  unfolding obey createOutcome freeOutcome mapOutcome linkOutcome unmapOutcome switchOutcome guestOutcome forgetOutcome
+  unfolding obey createOutcome freeOutcome mapOutcome linkOutcome unmapOutcome switchOutcome guestOutcome acknowledgeOutcome forgetOutcome
   kinds-stay golden (begins kinds B) other = absurd (other kinds B refl)
   kinds-stay golden (creates v p) other = settled _ _ (marked-keeps _ _ _ (retyped-keeps added v p))
   kinds-stay golden (frees v p) other = settled _ _ (retyped-keeps removed v p)
@@ -56,5 +57,6 @@ module _ (s : Store) where
   kinds-stay golden (links p i t j) other = settled _ _ (cleared-keeps added _ _ _)
   kinds-stay golden (unmaps f p i) other = settled _ _ (cleared-keeps removed _ _ _)
   kinds-stay golden (switches p) other = settled _ _ (kinds-putWord (s .ledger) activePlace p (inl (omega arith)))
-  kinds-stay golden (accesses a addr) other = settled _ _ (access-keeps a _)
+  kinds-stay golden (accesses a registers addr) other = settled _ _ (access-keeps a _)
+  kinds-stay golden (acknowledges registers) other = settled _ _ refl
   kinds-stay golden (forgets p m) other = settled _ _ (marks-clear-all (s .ledger) (p - base s) m .kinds-are)

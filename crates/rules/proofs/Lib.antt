@@ -8,6 +8,7 @@ pub mod Starting
 pub mod Tables
 pub mod Walk
 pub mod Guests
+pub mod Acknowledging
 pub mod Changes
 pub mod Typing
 pub mod Creating
@@ -39,4 +40,5 @@ pub mod Edges
 pub mod LargeWitnesses
 pub mod MarkWitnesses
 pub mod Ascending
+pub mod Registers
 pub mod KeptKinds

@@ -2,13 +2,13 @@
 use mathlib.Core.List.{List, [], _∷_}
 use mathlib.Core.Logic.{_≢_}
 use mathlib.Core.Option.{some, Option·none-ne-some}
-use mathlib.Core.Path.{_≡_, refl, _∙_}
+use mathlib.Core.Path.{_≡_, refl, sym, _∙_}
 use Prim.Native.Nat.{ℕ, zero, suc}
 use lib.ListN.{take, getElem?}
 use Rattle.rules.specs.Store.{Store}
 use Rattle.rules.specs.Outcomes.{Outcome}
 use Rattle.rules.specs.Guest.{Access, fetches}
-use Rattle.rules.specs.Steps.{Step, accesses, runBy, Told, begun, afterAnswer, history}
+use Rattle.rules.specs.Steps.{Step, accesses, acknowledges, runBy, Told, begun, afterAnswer, history}
 use Rattle.rules.specs.Demand3.{KeepsTables, Fetched, Claim}
 use Rattle.rules.proofs.State.{Running, safe}
 
@@ -18,9 +18,11 @@ module _ (by : Store → Step → Outcome) (Good : Told → Store → List Step 
     pub runs : {h : Told} {s : Store} {steps : List Step} → Good h s steps → Running h s
     pub onward : {h : Told} {s : Store} {step : Step} {steps : List Step} → Good h s (step ∷ steps) → Good (afterAnswer (by s step .answer) h step) (by s step .after) steps
     pub avoids : {h : Told} {s : Store} {step : Step} {steps : List Step} → Good h s (step ∷ steps) → (by s step .answer ≢ 13) × (by s step .answer ≢ 24)
-    pub guarded : {h : Told} {s : Store} {a : Access} {addr : ℕ} {steps : List Step} → Good h s (accesses a addr ∷ steps) → KeepsTables h s (by s (accesses a addr) .after)
-    pub fetched : {h : Told} {s : Store} {addr : ℕ} {steps : List Step} → Good h s (accesses fetches addr ∷ steps) → by s (accesses fetches addr) .answer ≡ 0
-        → Fetched h s addr (by s (accesses fetches addr) .byte)
+    pub guarded : {h : Told} {s : Store} {a : Access} {registers : List ℕ} {addr : ℕ} {steps : List Step} → Good h s (accesses a registers addr ∷ steps)
+        → KeepsTables h s (by s (accesses a registers addr) .after)
+    pub fetched : {h : Told} {s : Store} {registers : List ℕ} {addr : ℕ} {steps : List Step} → Good h s (accesses fetches registers addr ∷ steps)
+        → by s (accesses fetches registers addr) .answer ≡ 0 → Fetched h s addr (by s (accesses fetches registers addr) .byte)
+    pub untouched : (s : Store) (registers : List ℕ) → by s (acknowledges registers) .after ≡ s
 
   -- a step of a list: the state in which it is taken, and what it does
   pub record Moment (h : Told) (s : Store) (steps : List Step) (i : ℕ) (step : Step) : Type 0 where
@@ -81,19 +83,23 @@ module _ (by : Store → Step → Outcome) (Good : Told → Store → List Step 
     answered s (step ∷ steps) zero k e = (step, refl)
     answered s (step ∷ steps) (suc i) k e = answered (by s step .after) steps i k e
 
-    -- lists 7 to 12, 14 and 15, of a list that starts from a good state
+    -- lists 7 to 12 and 14 to 16, of a list that starts from a good state
     pub claimed : (golden : List ℕ) {kinds : List ℕ} {B : ℕ} {s : Store} (steps : List Step) → Good (begun kinds B golden) s steps → Claim by golden kinds B s steps
     claimed golden {kinds} {B} {s} steps g =
         record {
           safe = λ i. safe (reached steps g i);
-          guarded = λ i a addr e.
-              let m = moment steps g i (accesses a addr) e in
+          guarded = λ i a registers addr e.
+              let m = moment steps g i (accesses a registers addr) e in
               rw (m .told-is, m .store-is, m .after-is) (keeps .guarded (m .good));
-          fetched = λ i addr byte e accepted given.
-              let m = moment steps g i (accesses fetches addr) e in
-              let zero-is : by (m .store) (accesses fetches addr) .answer ≡ 0 = cc (m .answer-is, accepted) in
-              let byte-is : byte ≡ by (m .store) (accesses fetches addr) .byte = cc (m .byte-is, given) in
+          fetched = λ i registers addr byte e accepted given.
+              let step = accesses fetches registers addr in
+              let m = moment steps g i step e in
+              let zero-is : by (m .store) step .answer ≡ 0 = cc (m .answer-is, accepted) in
+              let byte-is : byte ≡ by (m .store) step .byte = cc (m .byte-is, given) in
               rw (m .told-is, m .store-is, byte-is) (keeps .fetched (m .good) zero-is);
+          untouched = λ i registers e.
+              let m = moment steps g i (acknowledges registers) e in
+              m .after-is ∙ keeps .untouched (m .store) registers ∙ sym (m .store-is);
           never = λ i k e.
               let (step, at) = answered s steps i k e in
               let m = moment steps g i step at in

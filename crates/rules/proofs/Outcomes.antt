@@ -49,9 +49,9 @@ pub switch-byte : (s : Store) (p : ℕ) → 0 ≡ switchOutcome s p .byte
 unfolding switchOutcome
 switch-byte s p = settle-byte _ _ _ refl
 
-pub write-byte : (v : ℕ) (s : Store) (addr : ℕ) → 0 ≡ guestOutcome (writes v) s addr .byte
+pub write-byte : (v : ℕ) (s : Store) (registers : List ℕ) (addr : ℕ) → 0 ≡ guestOutcome (writes v) s registers addr .byte
 unfolding guestOutcome byteGiven
-write-byte v s addr = settle-byte _ _ _ refl
+write-byte v s registers addr = settle-byte _ _ _ refl
 
 pub forget-byte : (s : Store) (p m : ℕ) → 0 ≡ forgetOutcome s p m .byte
 unfolding forgetOutcome

@@ -20,6 +20,7 @@ use Rattle.rules.specs.Tables.{typeCode, tableBlocks}
 use Rattle.rules.specs.General.{otherType}
 use Rattle.rules.specs.Forget.{forgetOutcome, strayBlocks}
 use Rattle.rules.specs.Switch.{switchRefusals, switchAfter, switchOutcome}
+use Rattle.rules.specs.Registers.{misfitRegisters}
 use Rattle.rules.specs.Guest.{ends, walk, Access, needed, walkRefusals, noActiveTable, activeWalk, guestRefusals, guestAccepted, guestOutcome}
 use Rattle.rules.specs.Steps.{Step, switches, obey, Told, afterAccepted, afterAnswer}
 use Rattle.rules.specs.Policies.{Switchable, SwitchesToTables}
@@ -107,15 +108,15 @@ module _ {h : Told} {s : Store} (r : Running h s) where
   switch-taken p table = took r (switches p) (answerOf (switchRefusals s p)) (leaving (switchAfter s p)) refl (switch-accepted p .1 table)
 
   -- the table in use leads to a block with the right that the access needs
-  pub access-accepted : (a : Access) (addr : ℕ) {table : ℕ} {v : Level} {p q : ℕ} → h .table ≡ some table → walk (h .B) (blocks s) (s .memory) table addr ≡ ends v p q
-      → allows q (needed a) ≡ true → guestOutcome a s addr .answer ≡ 0
+  pub access-accepted : (a : Access) (registers : List ℕ) (addr : ℕ) {table : ℕ} {v : Level} {p q : ℕ} → h .table ≡ some table → walk (h .B) (blocks s) (s .memory) table addr ≡ ends v p q
+      → misfitRegisters registers ≡ false → allows q (needed a) ≡ true → guestOutcome a s registers addr .answer ≡ 0
   unfolding guestOutcome walkRefusals
-  access-accepted a addr {table} {v} {p} {q} in-use walked allowed =
+  access-accepted a registers addr {table} {v} {p} {q} in-use walked fits allowed =
       let root = r .root table in-use in
       let is : active s ≡ table = r .active-is ∙ ap activeWord in-use in
       let unbarred : noActiveTable s ≡ false = rw (is, inside (base s) (blocks s) table (tableBlocks l1) (root .low) (root .high), same (table % tableBlocks l1) 0 (root .aligned)) refl in
       let at : activeWalk s addr ≡ ends v p q = rw (is, ← r .told-base) walked in
-      settle-answer (answerOf (guestRefusals a s addr)) s (guestAccepted a s addr) ∙ rw at (accepted (step no-misfit (step unbarred (step (ap not allowed) done))))
+      settle-answer (answerOf (guestRefusals a s registers addr)) s (guestAccepted a s addr) ∙ rw at (accepted (step no-misfit (step fits (step unbarred (step (ap not allowed) done)))))
 
   -- a forget of the whole region is accepted
   pub forget-whole : forgetOutcome s (base s) (blocks s) .answer ≡ 0

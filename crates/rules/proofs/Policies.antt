@@ -28,11 +28,11 @@ use Rattle.rules.proofs.InTurn.{in-turn}
 
 module _ (golden : List ℕ) {kinds : List ℕ} {B : ℕ} {s : Store} (r : Running (begun kinds B golden) s) (steps : List Step) where
   -- what holds of the guest's steps from running states
-  at-guest-steps : (P : Told → Store → Store → Type 0) → ((h : Told) (now : Store) → Running h now → (a : Access) (addr : ℕ) → P h now (guestOutcome a now addr .after)) → AtGuestSteps golden kinds B s steps P
+  at-guest-steps : (P : Told → Store → Store → Type 0) → ((h : Told) (now : Store) → Running h now → (a : Access) (registers : List ℕ) (addr : ℕ) → P h now (guestOutcome a now registers addr .after)) → AtGuestSteps golden kinds B s steps P
   unfolding obey
-  at-guest-steps P holds i a addr e =
-      let m = moment golden refl r steps i (accesses a addr) e in
-      rw (m .told-is, m .store-is, m .after-is) (holds (m .told) (m .store) (m .good .1) a addr)
+  at-guest-steps P holds i a registers addr e =
+      let m = moment golden refl r steps i (accesses a registers addr) e in
+      rw (m .told-is, m .store-is, m .after-is) (holds (m .told) (m .store) (m .good .1) a registers addr)
 
   -- what holds of a step's answer in every running state
   answered : (P : Told → Store → ℕ → Type 0) (step : Step) (refusals : Store → List Refusal) → ((now : Store) → obey golden now step .answer ≡ answerOf (refusals now))
@@ -55,11 +55,12 @@ module _ (golden : List ℕ) {kinds : List ℕ} {B : ℕ} {s : Store} (r : Runni
         keeps-executable = at-guest-steps KeepsExecutable (λ h now r. guest-keeps-executable r);
         keeps-working-set = at-guest-steps KeepsWorkingSet (λ h now r. guest-keeps-working-set r);
         keeps-walks = at-guest-steps KeepsWalks (λ h now r. guest-keeps-walks r);
-        fetched = λ i addr byte e accepted given.
-            let m = moment golden refl r steps i (accesses fetches addr) e in
-            let zero-is : obey golden (m .store) (accesses fetches addr) .answer ≡ 0 = cc (m .answer-is, accepted) in
-            let byte-is : byte ≡ obey golden (m .store) (accesses fetches addr) .byte = cc (m .byte-is, given) in
-            rw (m .told-is, m .store-is, byte-is) (guest-fetches-code (m .good .1) addr zero-is);
+        fetched = λ i registers addr byte e accepted given.
+            let step = accesses fetches registers addr in
+            let m = moment golden refl r steps i step e in
+            let zero-is : obey golden (m .store) step .answer ≡ 0 = cc (m .answer-is, accepted) in
+            let byte-is : byte ≡ obey golden (m .store) step .byte = cc (m .byte-is, given) in
+            rw (m .told-is, m .store-is, byte-is) (guest-fetches-code (m .good .1) registers addr zero-is);
         free-sound = λ v p. answered (λ h now k. (k ≢ 8) × (k ≢ 10)) (frees v p) (λ now. freeRefusals v now p) (λ now. settle-answer _ now (leaving (freeAfter v now p))) (λ h now r. free-sound r v p);
         unmap-sound = λ f p j.
             answered (λ h now k. (k ≢ 10) × (k ≡ 8 → forAnother f (entryAt (level f) (now .memory) (blockWords * (p - h .B) + j)) ≡ true)) (unmaps f p j) (λ now. unmapRefusals f now p j)

@@ -1,4 +1,4 @@
--- Lists 7 to 12, 14 and 15 hold of what every run leaves and hands out: from an accepted begin on, the run is one of the lists of the theorem.
+-- Lists 7 to 12 and 14 to 16 hold of what every run leaves and hands out: from an accepted begin on, the run is one of the lists of the theorem.
 use mathlib.Core.List.{List, [], _∷_, _++_}
 use mathlib.Core.Option.{some, Option·none-ne-some}
 use mathlib.Core.Path.{_≡_}
@@ -32,7 +32,7 @@ module _ (golden : List ℕ) where
       rw is (upheld s kinds B steps accepted)
   from-begin s (step ∷ steps) (suc i) kinds B e a = from-begin (obey golden s step .after) steps i kinds B e a
 
-  -- the named theorem: lists 7 to 12, 14 and 15 of what every run leaves and hands out, over whatever was lent
+  -- the named theorem: lists 7 to 12 and 14 to 16 of what every run leaves and hands out, over whatever was lent
   pub run-upholds-demand3 : (s : Store) (steps : List Step) → (let r = run golden s steps in Upholds golden s steps (r .reached) (r .answers) (r .bytes))
   run-upholds-demand3 s steps start before reached i kinds B e a =
       let all = from-begin start (before ++ steps) i kinds B e in

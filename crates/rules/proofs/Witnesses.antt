@@ -1,9 +1,9 @@
--- Every number of begin 1, map list, link list, unmap list, switch list and guest list is an answer: it is computed on a small store.
+-- Every number of begin 1, map list, link list, unmap list, switch list, guest list and acknowledge list is an answer: it is computed on a small store.
 use mathlib.Core.List.{List, [], _∷_, map}
 use mathlib.Core.Path.{_≡_, refl, _∙_, ap}
 use Prim.Native.Nat.{ℕ, _+_, _*_}
 use native.Mathlib.Omega.{arith}
-use lib.ListN.{length, set, replicate}
+use lib.ListN.{length, set, replicate, drop}
 use Rattle.rules.specs.Forget.{forgetOutcome}
 use Rattle.rules.specs.Free.{freeOutcome}
 use Rattle.rules.specs.Create.{createOutcome}
@@ -27,8 +27,9 @@ use Rattle.rules.specs.Map.{mapOutcome, unfitTarget, clashingTarget, uns
 use Rattle.rules.specs.Link.{linkOutcome}
 use Rattle.rules.specs.Unmap.{unmapOutcome}
 use Rattle.rules.specs.Switch.{switchOutcome}
+use Rattle.rules.specs.Registers.{clearRegisters, acknowledgeOutcome}
 use Rattle.rules.specs.Guest.{reads, guestOutcome, walk, passes, follow, walkRefusals, needed}
-use Rattle.rules.specs.Steps.{Step, begins, maps, links, unmaps, switches, accesses, obey, creates, frees, forgets}
+use Rattle.rules.specs.Steps.{Step, begins, maps, links, unmaps, switches, accesses, acknowledges, obey, creates, frees, forgets}
 use Rattle.rules.proofs.SmallStores.{memory, length-memory, first-entry, ledger, smallStore, fit, unfit, oneL2, oneL1, writesTo5, unsigned, fit-given, unfit-given}
 
 -- the answers of some steps, each taken in the same store
@@ -52,7 +53,7 @@ unfolding answers obey switchOutcome linkOutcome mapOutcome unmapOutcome settle 
 numbers-2-to-5 = rw (fit 0 ledger (refl, refl) refl, length-memory 0) refl
 
 -- 1, for a stored or given B that is no multiple of 256, and for a golden image of one byte
-number-1 : answers [] (smallStore 0 (putWord ledger basePlace 1)) (begins cachedKinds 1 ∷ switches 0 ∷ links 0 0 0 0 ∷ maps pages 0 0 0 0 firstKind ∷ unmaps pages 0 0 ∷ accesses reads 0 ∷ []) ≡ (1 ∷ 1 ∷ 1 ∷ 1 ∷ 1 ∷ 1 ∷ [])
+number-1 : answers [] (smallStore 0 (putWord ledger basePlace 1)) (begins cachedKinds 1 ∷ switches 0 ∷ links 0 0 0 0 ∷ maps pages 0 0 0 0 firstKind ∷ unmaps pages 0 0 ∷ accesses reads clearRegisters 0 ∷ []) ≡ (1 ∷ 1 ∷ 1 ∷ 1 ∷ 1 ∷ 1 ∷ [])
 unfolding answers obey beginOutcome switchOutcome linkOutcome mapOutcome unmapOutcome guestOutcome settle answerOf word putWord
 number-1 = rw (unfit-given 0 (putWord ledger basePlace 1) refl, unfit 0 (putWord ledger basePlace 1) refl refl) refl
 
@@ -62,7 +63,7 @@ lastKind kind = set (replicate kindsBytes 0) 14 kind
 
 -- 1, for a stored kind with bit 7 set, the last of the eight, in every call but begin; and a begin that gives such a kind, or fifteen bytes
 number-1-kinds : (answers [] (smallStore 0 (putList ledger kindsPlace (lastKind 0x80)))
-    (begins cachedKinds 0 ∷ creates l2 0 ∷ frees l2 0 ∷ maps pages 0 0 0 0 firstKind ∷ links 0 0 0 0 ∷ unmaps pages 0 0 ∷ switches 0 ∷ accesses reads 0 ∷ forgets 0 0 ∷ [])
+    (begins cachedKinds 0 ∷ creates l2 0 ∷ frees l2 0 ∷ maps pages 0 0 0 0 firstKind ∷ links 0 0 0 0 ∷ unmaps pages 0 0 ∷ switches 0 ∷ accesses reads clearRegisters 0 ∷ forgets 0 0 ∷ [])
     ≡ (0 ∷ 1 ∷ 1 ∷ 1 ∷ 1 ∷ 1 ∷ 1 ∷ 1 ∷ 1 ∷ []))
     × (answers [] (smallStore 0 ledger) (begins (lastKind 0x7F) 0 ∷ begins (lastKind 0x80) 0 ∷ begins (replicate 15 0) 0 ∷ []) ≡ (0 ∷ 1 ∷ 1 ∷ []))
 unfolding answers obey beginOutcome createOutcome freeOutcome switchOutcome linkOutcome mapOutcome unmapOutcome guestOutcome forgetOutcome settle answerOf misfitStored unlawfulKinds any kindAt half kindsOf part lastKind putList word
@@ -141,9 +142,9 @@ number-13-link =
 -- The guest
 
 -- active 1; a fault; the word 3, which no L1 entry may be
-numbers-21-22-24 : (answers [] (smallStore 0 (putWord ledger activePlace 1)) (accesses reads 0 ∷ []) ≡ (21 ∷ []))
-    × (answers [] (smallStore 0 ledger) (accesses reads 0 ∷ []) ≡ (22 ∷ []))
-    × (answers [] (smallStore 3 ledger) (accesses reads 0 ∷ []) ≡ (24 ∷ []))
+numbers-21-22-24 : (answers [] (smallStore 0 (putWord ledger activePlace 1)) (accesses reads clearRegisters 0 ∷ []) ≡ (21 ∷ []))
+    × (answers [] (smallStore 0 ledger) (accesses reads clearRegisters 0 ∷ []) ≡ (22 ∷ []))
+    × (answers [] (smallStore 3 ledger) (accesses reads clearRegisters 0 ∷ []) ≡ (24 ∷ []))
 unfolding answers obey guestOutcome settle answerOf outside word putWord walk passes walkRefusals l1Entry isLinkForm isSectionForm isFault isUnaccepted astray coverFirst placeFirst coverBlocks placeBlocks kindsOf part
 numbers-21-22-24 =
     let (e, _) = first-entry 0 (omega arith) in
@@ -168,6 +169,13 @@ entries-two = (
   ap (l2Entry (isRun twoWords 5) 5) (word-putWord-same (memory 1) (4 * 5) 0x1F (rw (length-memory 1) (omega arith)) (omega arith)),
 )
 
-number-23 : answers [] (record { memory = twoWords; ledger = ledger }) (accesses reads 0x5000 ∷ []) ≡ (23 ∷ [])
+number-23 : answers [] (record { memory = twoWords; ledger = ledger }) (accesses reads clearRegisters 0x5000 ∷ []) ≡ (23 ∷ [])
 unfolding answers obey guestOutcome settle answerOf misfit misfitStored unlawfulKinds any kindAt half kindsOf part outside word walk passes follow walkRefusals needed allows l1Entry l2Entry isLinkForm isPageForm isLargeForm rightsOf mayRead mayWrite mayExecute num isFault isUnaccepted astray coverFirst placeFirst coverBlocks placeBlocks rights
 number-23 = let (e, f) = entries-two in rw (length-two, e, f) refl
+
+-- 1 for registers that are too few or too many, in a store that fits, and an acknowledge that is accepted
+number-1-registers : answers [] (smallStore 0 ledger)
+    (accesses reads (drop 1 clearRegisters) 0 ∷ accesses reads (0 ∷ clearRegisters) 0 ∷ acknowledges (drop 1 clearRegisters) ∷ acknowledges (0 ∷ clearRegisters) ∷ acknowledges clearRegisters ∷ [])
+    ≡ (1 ∷ 1 ∷ 1 ∷ 1 ∷ 0 ∷ [])
+unfolding answers obey guestOutcome acknowledgeOutcome settle answerOf word kindsOf part
+number-1-registers = rw (fit 0 ledger (refl, refl) refl) refl

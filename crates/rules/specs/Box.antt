@@ -10,7 +10,7 @@ use Rattle.rules.specs.Outcomes.{Outcome}
 use Rattle.rules.specs.Tables.{tableEntries, tableEntry, mappingWords, mapping, gain}
 use Rattle.rules.specs.Begin.{beginOutcome}
 use Rattle.rules.specs.Forget.{forgetOutcome}
-use Rattle.rules.specs.Steps.{Step, begins, creates, frees, maps, links, unmaps, switches, accesses, forgets, obey}
+use Rattle.rules.specs.Steps.{Step, begins, creates, frees, maps, links, unmaps, switches, accesses, acknowledges, forgets, obey}
 use Rattle.rules.specs.Demand3.{Claim}
 
 -- box 1: this outcome with the ledger as it was in store s
@@ -26,7 +26,8 @@ onBox golden s (maps f p i t r k) = obey golden s (maps f p i t r k)
 onBox golden s (links p i t j) = obey golden s (links p i t j)
 onBox golden s (unmaps f p i) = obey golden s (unmaps f p i)
 onBox golden s (switches p) = obey golden s (switches p)
-onBox golden s (accesses a addr) = untold s (obey golden s (accesses a addr))
+onBox golden s (accesses a registers addr) = untold s (obey golden s (accesses a registers addr))
+onBox golden s (acknowledges registers) = obey golden s (acknowledges registers)
 onBox golden s (forgets p m) = obey golden s (forgets p m)
 
 -- box 2: a step on store s whose entries give write to physical block q, if it is accepted
@@ -38,7 +39,8 @@ grantsWrite s (maps f p i t r k) q = above (gain (mappingWords f) (mapping f t r
 grantsWrite s (links p i t j) q = false
 grantsWrite s (unmaps f p i) q = false
 grantsWrite s (switches p) q = false
-grantsWrite s (accesses a addr) q = false
+grantsWrite s (accesses a registers addr) q = false
+grantsWrite s (acknowledges registers) q = false
 grantsWrite s (forgets p m) q = false
 
 -- box 2: one of the forgets with which a list begins, the first on store s, is accepted and names physical block q

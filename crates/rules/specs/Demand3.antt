@@ -1,5 +1,5 @@
--- The claim about a whole list of steps: demand 3, that what is marked is signed, that the kinds are those of begin, and that neither 13 nor 24 is answered
--- (RULES: lists).
+-- The claim about a whole list of steps: demand 3, that what is marked is signed, that the kinds are those of begin, that an acknowledge changes nothing, and that
+-- neither 13 nor 24 is answered (RULES: lists).
 use mathlib.Core.Bool.{true}
 use mathlib.Core.List.{List}
 use mathlib.Core.Logic.{_≢_}
@@ -14,7 +14,7 @@ use Rattle.rules.specs.Outcomes.{Outcome}
 use Rattle.rules.specs.Tables.{typeD}
 use Rattle.rules.specs.Begin.{beginOutcome}
 use Rattle.rules.specs.Guest.{ends, walk, byteIndex, Access, fetches}
-use Rattle.rules.specs.Steps.{Step, accesses, obey, runBy, Told, begun, history, afresh}
+use Rattle.rules.specs.Steps.{Step, accesses, acknowledges, obey, runBy, Told, begun, history, afresh}
 
 -- lists 6: w, x or l of block b, b counted from the region's first, read afresh
 abbrev pub counted : Told → Store → Counter → ℕ → ℕ
@@ -60,16 +60,18 @@ module _ (by : Store → Step → Outcome) (golden kinds : List ℕ) (B : ℕ) (
   abbrev pub toldBy : ℕ → Told
   toldBy i = history (begun kinds B golden) (take i steps) (runBy by s steps .answers)
 
-  -- lists 7, lists 8, lists 9, lists 10, lists 11, lists 12, lists 14, lists 15: the claim
+  -- lists 7, lists 8, lists 9, lists 10, lists 11, lists 12, lists 14, lists 15, lists 16: the claim
   pub record Claim : Type 0 where
     -- lists 7, lists 8, lists 9, lists 14, lists 15: at the start and after each step
     pub safe : (i : ℕ) → Safe (toldBy i) (storeBy i)
     -- lists 10: no guest step changes a table
-    pub guarded : (i : ℕ) (a : Access) (addr : ℕ) → getElem? steps i ≡ some (accesses a addr) → KeepsTables (toldBy i) (storeBy i) (storeBy (suc i))
+    pub guarded : (i : ℕ) (a : Access) (registers : List ℕ) (addr : ℕ) → getElem? steps i ≡ some (accesses a registers addr) → KeepsTables (toldBy i) (storeBy i) (storeBy (suc i))
     -- lists 11: a byte that is fetched is of a signed block
-    pub fetched : (i addr byte : ℕ) → getElem? steps i ≡ some (accesses fetches addr)
+    pub fetched : (i : ℕ) (registers : List ℕ) (addr byte : ℕ) → getElem? steps i ≡ some (accesses fetches registers addr)
         → getElem? (runBy by s steps .answers) i ≡ some 0 → getElem? (runBy by s steps .bytes) i ≡ some byte
         → Fetched (toldBy i) (storeBy i) addr byte
+    -- lists 16: an acknowledge changes neither memory nor ledger
+    pub untouched : (i : ℕ) (registers : List ℕ) → getElem? steps i ≡ some (acknowledges registers) → storeBy (suc i) ≡ storeBy i
     -- lists 12: no answer is 13 or 24
     pub never : (i k : ℕ) → getElem? (runBy by s steps .answers) i ≡ some k → (k ≢ 13) × (k ≢ 24)
 
@@ -81,7 +83,7 @@ storeAt golden s steps i = runBy (obey golden) s (take i steps) .reached
 abbrev pub toldAt : List ℕ → List ℕ → ℕ → Store → List Step → ℕ → Told
 toldAt golden kinds B s steps i = toldBy (obey golden) golden kinds B s steps i
 
--- lists 7, lists 8, lists 9, lists 10, lists 11, lists 12, lists 14, lists 15: the claim about such steps
+-- lists 7, lists 8, lists 9, lists 10, lists 11, lists 12, lists 14, lists 15, lists 16: the claim about such steps
 abbrev pub Demand3 : List ℕ → List ℕ → ℕ → Store → List Step → Type 0
 Demand3 golden kinds B s steps = Claim (obey golden) golden kinds B s steps
 

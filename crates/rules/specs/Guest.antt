@@ -2,6 +2,7 @@
 use mathlib.Core.Bool.{Bool, true, cond, not, _||_}
 use mathlib.Core.List.{List, [], _∷_}
 use Prim.Native.Nat.{ℕ, _+_, _-_, _*_, _/_, _%_, _^_}
+use lib.Dec.{eqb}
 use lib.ListN.{getD, set}
 use Rattle.words.specs.Words.{bits}
 use Rattle.entries.specs.Entries.{Entry, fault, unaccepted, link, section, page, large, Level, l1, l2, blockTables, entryAt, isFault, isUnaccepted, rights, coverFirst, coverBlocks}
@@ -11,6 +12,7 @@ use Rattle.rules.specs.Outcomes.{Outcome, Accepted, callOutcome}
 use Rattle.rules.specs.Tables.{tableBlocks, l2Words, astray}
 use Rattle.entries.specs.Rights.{Right, read, write, execute, allows}
 use Rattle.rules.specs.General.{misaligned, tableOutside}
+use Rattle.rules.specs.Registers.{misfitRegisters, Abort, dataAbort, prefetchAbort, Fault, translation, permission, faultCode, statusWord, putFault}
 
 -- guest walk, guest end: a walk stops at an entry of some level with a refusal's number, or ends at one in a physical block, with its rights
 pub data Walk : Type 0 where
@@ -73,10 +75,11 @@ noActiveTable s = tableOutside l1 s (active s) || misaligned (active s) (tableBl
 abbrev pub activeWalk : Store → ℕ → Walk
 activeWalk s addr = walk (base s) (blocks s) (s .memory) (active s) addr
 
--- guest list: 1, 21, and what the walk adds
-abbrev pub guestRefusals : Access → Store → ℕ → List Refusal
-guestRefusals a s addr =
+-- guest list, refusal 1: 1, for the registers too, 21, and what the walk adds
+abbrev pub guestRefusals : Access → Store → List ℕ → ℕ → List Refusal
+guestRefusals a s registers addr =
     1 if misfitStored s
+    ∷ 1 if misfitRegisters registers
     ∷ 21 if noActiveTable s
     ∷ walkRefusals a (activeWalk s addr)
 
@@ -105,5 +108,36 @@ guestAccepted a s addr =
     record { store = record { memory = written a (s .memory) j; ledger = unmarked a (s .ledger) j }; byte = byteGiven a (s .memory) j; hashed = 0 }
 
 -- guest list, guest leaves, guest byte: what an access answers, leaves and gives
-unfoldable pub guestOutcome : Access → Store → ℕ → Outcome
-guestOutcome a s addr = callOutcome (guestRefusals a s addr) s (guestAccepted a s addr)
+unfoldable pub guestOutcome : Access → Store → List ℕ → ℕ → Outcome
+guestOutcome a s registers addr = callOutcome (guestRefusals a s registers addr) s (guestAccepted a s addr)
+
+-- registers 6: the abort that a fault of an access raises
+abbrev pub raised : Access → Abort
+raised reads = dataAbort
+raised fetches = prefetchAbort
+raised (writes v) = dataAbort
+
+-- registers 4: the bit that tells of a write
+abbrev pub writeBit : Access → ℕ
+writeBit reads = 0
+writeBit fetches = 0
+writeBit (writes v) = 1
+
+-- registers 2: the level of the entry at which a walk stops or ends
+unfoldable pub walkLevel : Walk → Level
+walkLevel (stops v k) = v
+walkLevel (ends v p r) = v
+
+-- registers 6: the registers after a fault of an access
+abbrev pub faulted : Access → List ℕ → ℕ → Fault → List ℕ
+faulted a registers addr f = putFault registers (raised a) (statusWord (faultCode f) (writeBit a)) addr
+
+-- registers 2, registers 6, registers 7: the registers after an access that is answered k, by the level at which its walk stops or ends
+unfoldable pub registersAfter : Access → List ℕ → ℕ → Level → ℕ → List ℕ
+registersAfter a registers addr v k =
+    cond (eqb k 22) (faulted a registers addr (translation v))
+    (cond (eqb k 23) (faulted a registers addr (permission v)) registers)
+
+-- registers 6, registers 7: the registers that an access leaves
+unfoldable pub guestRegisters : Access → Store → List ℕ → ℕ → List ℕ
+guestRegisters a s registers addr = registersAfter a registers addr (walkLevel (activeWalk s addr)) (guestOutcome a s registers addr .answer)

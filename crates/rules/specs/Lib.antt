@@ -11,6 +11,7 @@ pub mod Map
 pub mod Link
 pub mod Unmap
 pub mod Switch
+pub mod Registers
 pub mod Guest
 pub mod Forget
 pub mod Steps

@@ -106,7 +106,7 @@ module _ (golden kinds : List ℕ) (B : ℕ) (s : Store) (steps : List Step) whe
 
   -- policies 4, policies 5, policies 6: P from before to after each guest step
   abbrev pub AtGuestSteps : (Told → Store → Store → Type 0) → Type 0
-  AtGuestSteps P = (i : ℕ) (a : Access) (addr : ℕ) → getElem? steps i ≡ some (accesses a addr)
+  AtGuestSteps P = (i : ℕ) (a : Access) (registers : List ℕ) (addr : ℕ) → getElem? steps i ≡ some (accesses a registers addr)
       → P (toldAt golden kinds B s steps i) (storeAt golden s steps i) (storeAt golden s steps (suc i))
 
   -- policies 8: wherever the list has this step, it is answered neither 8 nor 10
@@ -132,7 +132,7 @@ module _ (golden kinds : List ℕ) (B : ℕ) (s : Store) (steps : List Step) whe
     pub keeps-working-set : AtGuestSteps KeepsWorkingSet
     pub keeps-walks : AtGuestSteps KeepsWalks
     -- policies 7: what the guest executes
-    pub fetched : (i addr byte : ℕ) → getElem? steps i ≡ some (accesses fetches addr)
+    pub fetched : (i : ℕ) (registers : List ℕ) (addr byte : ℕ) → getElem? steps i ≡ some (accesses fetches registers addr)
         → getElem? (run golden s steps .answers) i ≡ some 0 → getElem? (run golden s steps .bytes) i ≡ some byte
         → FetchedCode (toldAt golden kinds B s steps i) (storeAt golden s steps i) addr byte
     -- policies 8: no entry is held against a free, and against an unmap only that it is not for it

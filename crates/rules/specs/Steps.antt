@@ -16,11 +16,12 @@ use Rattle.rules.specs.Map.{mapOutcome}
 use Rattle.rules.specs.Link.{linkOutcome}
 use Rattle.rules.specs.Unmap.{unmapOutcome}
 use Rattle.rules.specs.Switch.{switchOutcome}
+use Rattle.rules.specs.Registers.{acknowledgeOutcome}
 use Rattle.rules.specs.Guest.{Access, guestOutcome}
 use Rattle.rules.specs.Forget.{forgetOutcome}
 
--- lists 1, begin kinds, map kind: one of the twenty-one calls, with any arguments; the accesses are the guest steps, and a begin or a map that names no kinds is
--- one with cachedKinds or firstKind
+-- lists 1, begin kinds, map kind: one of the twenty-two calls, with any arguments; the accesses, with the registers that they are lent, are the guest steps, and a
+-- begin or a map that names no kinds is one with cachedKinds or firstKind
 pub data Step : Type 0 where
   begins : List ℕ → ℕ → Step
   creates : Level → ℕ → Step
@@ -29,7 +30,8 @@ pub data Step : Type 0 where
   links : ℕ → ℕ → ℕ → ℕ → Step
   unmaps : Form → ℕ → ℕ → Step
   switches : ℕ → Step
-  accesses : Access → ℕ → Step
+  accesses : Access → List ℕ → ℕ → Step
+  acknowledges : List ℕ → Step
   forgets : ℕ → ℕ → Step
 
 -- lists 1, lists 3: what comes of a step that is lent this image and this store
@@ -41,7 +43,8 @@ obey golden s (maps f p i t r k) = mapOutcome f golden s p i t r k
 obey golden s (links p i t j) = linkOutcome s p i t j
 obey golden s (unmaps f p i) = unmapOutcome f s p i
 obey golden s (switches p) = switchOutcome s p
-obey golden s (accesses a addr) = guestOutcome a s addr
+obey golden s (accesses a registers addr) = guestOutcome a s registers addr
+obey golden s (acknowledges registers) = acknowledgeOutcome s registers
 obey golden s (forgets p m) = forgetOutcome s p m
 
 -- lists 3: what comes of a list: the store reached, every answer, and every byte given (0 where a step gives none); numbers are left out
@@ -94,7 +97,8 @@ afterAccepted h (maps f p i t r k) = h
 afterAccepted h (links p i t j) = h
 afterAccepted h (unmaps f p i) = h
 afterAccepted h (switches p) = record { B = h .B; kinds = h .kinds; types = h .types; table = some p; golden = h .golden }
-afterAccepted h (accesses a addr) = h
+afterAccepted h (accesses a registers addr) = h
+afterAccepted h (acknowledges registers) = h
 afterAccepted h (forgets p m) = h
 
 -- lists 5: an accepted step tells something, a refused one nothing

@@ -17,7 +17,7 @@ pub record Upheld (golden kinds : List ℕ) (B : ℕ) (s : Store) (steps : List 
   -- lists 7, lists 8, lists 9, lists 14, lists 15: of the memory and ledger that are left, by the answers handed out
   pub safe : Safe (history (begun kinds B golden) steps answers) left
   -- lists 11: of the bytes handed out
-  pub fetched : (i addr byte : ℕ) → getElem? steps i ≡ some (accesses fetches addr) → getElem? answers i ≡ some 0 → getElem? bytes i ≡ some byte
+  pub fetched : (i : ℕ) (registers : List ℕ) (addr byte : ℕ) → getElem? steps i ≡ some (accesses fetches registers addr) → getElem? answers i ≡ some 0 → getElem? bytes i ≡ some byte
       → Fetched (history (begun kinds B golden) (take i steps) answers) (storeAt golden s steps i) addr byte
   -- lists 12: of the answers handed out
   pub never : (i k : ℕ) → getElem? answers i ≡ some k → (k ≢ 13) × (k ≢ 24)

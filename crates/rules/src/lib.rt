@@ -1,1 +1,1 @@
-// The rules of the twenty-one calls, and what holds of every list of steps: definitions and proofs only.
+// The rules of the twenty-two calls, and what holds of every list of steps: definitions and proofs only.
