@@ -6,26 +6,31 @@ use Prim.Native.Nat.{ℕ, zero, suc, _+_, _*_, _≤_}
 use native.Mathlib.Omega.{arith}
 use lib.ListN.{length}
 use Rattle.words.proofs.Bounded.{or-false-left}
-use Rattle.entries.specs.Entries.{l1}
+use Rattle.entries.specs.Entries.{l1, Level}
 use Rattle.entries.specs.Rights.{allows}
 use Rattle.rules.specs.Refusals.{_if_, answerOf}
 use Rattle.rules.specs.Store.{blockBytes, ledgerHeadBytes, ledgerRecordBytes, Store, lent, blocks, base, active, outside, misfitStored}
 use Rattle.rules.specs.Outcomes.{Outcome, Accepted, settle}
 use Rattle.rules.specs.Tables.{tableBlocks}
 use Rattle.rules.specs.General.{misaligned}
-use Rattle.rules.specs.Guest.{Walk, stops, ends, walk, byteIndex, Access, reads, fetches, needed, walkRefusals, activeWalk, noActiveTable, written, unmarked, byteGiven, guestOutcome}
-use Rattle.rules.proofs.State.{fits-stored, within}
-use Rattle.guest.specs.Meaning.{Verdict, refused, stopped, allowed, arrived, judged, answerIn, byteIn, memoryIn, ledgerIn}
-use Rattle.guest.specs.Needs.{Region, InMemory, Recorded}
+use Rattle.rules.specs.Registers.{registersBytes, misfitRegisters}
+use Rattle.rules.specs.Guest.{Walk, stops, ends, walk, byteIndex, Access, reads, fetches, needed, walkRefusals, activeWalk, noActiveTable, written, unmarked, byteGiven, guestOutcome, walkLevel, registersAfter, guestRegisters}
+use Rattle.rules.proofs.State.{equal, fits-stored, within}
+use Rattle.guest.specs.Meaning.{Verdict, refused, stopped, allowed, arrived, judged, answerIn, byteIn, memoryIn, ledgerIn, registersIn}
+use Rattle.guest.specs.Needs.{Region, InMemory, Recorded, Reportable}
 use Rattle.guest.proofs.Walking.{InRegion, walk-in-region}
 
 -- Which test decides
 
-pub judged-1 : (a : Access) (s : Store) (addr : ℕ) → misfitStored s ≡ true → refused 1 ≡ judged a s addr
+pub judged-1 : (a : Access) (s : Store) (registers : List ℕ) (addr : ℕ) → misfitStored s ≡ true → refused 1 ≡ judged a s registers addr
 unfolding judged
-judged-1 a s addr e = rw e
+judged-1 a s registers addr e = rw e
 
--- where 1 does not apply, by the words of the ledger that were read
+pub judged-registers : (a : Access) (s : Store) (registers : List ℕ) (addr : ℕ) → misfitStored s ≡ false → misfitRegisters registers ≡ true → refused 1 ≡ judged a s registers addr
+unfolding judged
+judged-registers a s registers addr e f = rw (e, f)
+
+-- where 1 does not apply to memory and ledger, by the words of the ledger that were read
 module _ (s : Store) {B n t : ℕ} (b : B ≡ base s) (m : n ≡ blocks s) (l : t ≡ active s) (fit : misfitStored s ≡ false) where
   abbrev noTable : Bool
   noTable = outside B n t (tableBlocks l1) || misaligned t (tableBlocks l1)
@@ -33,19 +38,21 @@ module _ (s : Store) {B n t : ℕ} (b : B ≡ base s) (m : n ≡ blocks s) (l : 
   no-table : noTable ≡ noActiveTable s
   no-table = rw (b, m, l)
 
-  pub judged-21 : (a : Access) (addr : ℕ) → noTable ≡ true → refused 21 ≡ judged a s addr
-  unfolding judged
-  judged-21 a addr e = rw (fit, sym no-table ∙ e)
-
   -- there is a table to walk from
   pub walkable : noTable ≡ false → Region (s .memory) B n × ((B ≤ t) × (t + tableBlocks l1 ≤ B + n))
   walkable e =
       let f = fits-stored s fit in
       (record { whole = omega arith; physical = omega arith }, within B n t (tableBlocks l1) (or-false-left (outside B n t (tableBlocks l1)) (misaligned t (tableBlocks l1)) e))
 
-  pub judged-walk : {r : Verdict} {w : Walk} (a : Access) (addr : ℕ) → noTable ≡ false → w ≡ walk B n (s .memory) t addr → r ≡ arrived a B addr w → r ≡ judged a s addr
-  unfolding judged
-  judged-walk a addr e q p = p ∙ rw (q, b, m, l, fit, sym no-table ∙ e)
+  -- nor to the registers
+  module _ (registers : List ℕ) (fits : misfitRegisters registers ≡ false) (a : Access) (addr : ℕ) where
+    pub judged-21 : noTable ≡ true → refused 21 ≡ judged a s registers addr
+    unfolding judged
+    judged-21 e = rw (fit, fits, sym no-table ∙ e)
+
+    pub judged-walk : {r : Verdict} {w : Walk} → noTable ≡ false → w ≡ walk B n (s .memory) t addr → r ≡ arrived a B addr w → r ≡ judged a s registers addr
+    unfolding judged
+    judged-walk e q p = p ∙ rw (q, b, m, l, fit, fits, sym no-table ∙ e)
 
 -- The byte
 
@@ -61,19 +68,33 @@ arrived-lies a memory ledger B n addr (ends v p r) e f i = go (allows r (needed 
   go true = (omega arith, omega arith)
   go false = (tt, tt)
 
-pub byte-lies : (a : Access) (s : Store) (addr : ℕ) → InMemory (s .memory) (judged a s addr) × Recorded (s .ledger) (judged a s addr)
+pub byte-lies : (a : Access) (s : Store) (registers : List ℕ) (addr : ℕ) → InMemory (s .memory) (judged a s registers addr) × Recorded (s .ledger) (judged a s registers addr)
 unfolding InMemory Recorded judged
-byte-lies a s addr = go (misfitStored s) (noActiveTable s) refl where
-  at : Bool → Bool → Verdict
-  at f t = cond f (refused 1) (cond t (refused 21) (arrived a (base s) addr (activeWalk s addr)))
+byte-lies a s registers addr = go (misfitStored s) (misfitRegisters registers) (noActiveTable s) refl where
+  at : Bool → Bool → Bool → Verdict
+  at f g t = cond f (refused 1) (cond g (refused 1) (cond t (refused 21) (arrived a (base s) addr (activeWalk s addr))))
 
-  go : (f t : Bool) → misfitStored s ≡ f → InMemory (s .memory) (at f t) × Recorded (s .ledger) (at f t)
-  go true t e = (tt, tt)
-  go false true e = (tt, tt)
-  go false false e =
+  go : (f g t : Bool) → misfitStored s ≡ f → InMemory (s .memory) (at f g t) × Recorded (s .ledger) (at f g t)
+  go true g t e = (tt, tt)
+  go false true t e = (tt, tt)
+  go false false true e = (tt, tt)
+  go false false false e =
       let f = fits-stored s e in
       arrived-lies a (s .memory) (s .ledger) (base s) (blocks s) addr (activeWalk s addr) (f .memory-length) (f .ledger-length)
       (walk-in-region (base s) (blocks s) addr (s .memory) (active s))
+
+-- The registers
+
+pub reportable : (a : Access) (s : Store) (registers : List ℕ) (addr : ℕ) → Reportable registers (judged a s registers addr)
+unfolding Reportable judged
+reportable a s registers addr = go (misfitStored s) (misfitRegisters registers) (noActiveTable s) (arrived a (base s) addr (activeWalk s addr)) refl where
+  go : (f g t : Bool) (v : Verdict) → misfitRegisters registers ≡ g → Reportable registers (cond f (refused 1) (cond g (refused 1) (cond t (refused 21) v)))
+  go true g t v e = tt
+  go false true t v e = tt
+  go false false true v e = tt
+  go false false false (refused k) e = tt
+  go false false false (stopped l k) e = equal (length registers) registersBytes e
+  go false false false (allowed j) e = tt
 
 -- What follows from the rules' verdict
 
@@ -92,36 +113,44 @@ kept a memory ledger (refused k) h = (refl, refl)
 kept a memory ledger (stopped v k) h = (refl, refl)
 kept a memory ledger (allowed j) h = h j
 
-module _ (a : Access) (memory ledger : List ℕ) (addr : ℕ) where
+module _ (a : Access) (memory ledger registers : List ℕ) (addr : ℕ) where
   abbrev s : Store
   s = lent memory ledger
 
   abbrev accepted : Walk → Accepted
   accepted w = let j = byteIndex (base s) addr w in record { store = lent (written a memory j) (unmarked a ledger j); byte = byteGiven a memory j; hashed = 0 }
 
-  abbrev outcomeIn : Verdict → Outcome
-  outcomeIn v = record { answer = answerIn v; after = lent (memoryIn a memory v) (ledgerIn a ledger v); byte = byteIn a memory v; hashed = 0 }
+  -- what an access answers, leaves and gives, and the registers that it leaves, whose walk stops or ends at this level
+  abbrev Said : Outcome → Level → Verdict → Type 0
+  Said o l v =
+      (o ≡ record { answer = answerIn v; after = lent (memoryIn a memory v) (ledgerIn a ledger v); byte = byteIn a memory v; hashed = 0 })
+      × (registersAfter a registers addr l (o .answer) ≡ registersIn a registers addr v)
 
-  arrived-outcome : (w : Walk) → InRegion (base s) (blocks s) w → settle (answerOf (walkRefusals a w)) s (accepted w) ≡ outcomeIn (arrived a (base s) addr w)
-  unfolding settle answerOf walkRefusals byteIndex arrived answerIn byteIn memoryIn ledgerIn InRegion
-  arrived-outcome (stops v zero) i = let z : ⊥ = omega arith in absurd z
-  arrived-outcome (stops v (suc k)) i = refl
-  arrived-outcome (ends v p r) i = go (allows r (needed a)) where
-    go : (t : Bool) → settle (answerOf (23 if not t ∷ [])) s (accepted (ends v p r)) ≡ outcomeIn (cond t (allowed (byteIndex (base s) addr (ends v p r))) (stopped v 23))
-    go true = refl
-    go false = refl
+  arrived-said : (w : Walk) → InRegion (base s) (blocks s) w → Said (settle (answerOf (walkRefusals a w)) s (accepted w)) (walkLevel w) (arrived a (base s) addr w)
+  unfolding settle answerOf walkRefusals byteIndex arrived answerIn byteIn memoryIn ledgerIn InRegion registersIn registersAfter walkLevel
+  arrived-said (stops v zero) i = let z : ⊥ = omega arith in absurd z
+  arrived-said (stops v (suc k)) i = (refl, refl)
+  arrived-said (ends v p r) i = go (allows r (needed a)) where
+    go : (t : Bool) → Said (settle (answerOf (23 if not t ∷ [])) s (accepted (ends v p r))) v (cond t (allowed (byteIndex (base s) addr (ends v p r))) (stopped v 23))
+    go true = (refl, refl)
+    go false = (refl, refl)
 
-  judged-outcome : guestOutcome a s addr ≡ outcomeIn (judged a s addr)
-  unfolding guestOutcome settle answerOf judged answerIn byteIn memoryIn ledgerIn
-  judged-outcome = go (misfitStored s) (noActiveTable s) where
+  judged-said : Said (guestOutcome a s registers addr) (walkLevel (activeWalk s addr)) (judged a s registers addr)
+  unfolding guestOutcome settle answerOf judged answerIn byteIn memoryIn ledgerIn registersIn registersAfter
+  judged-said = go (misfitStored s) (misfitRegisters registers) (noActiveTable s) where
     w : Walk
     w = activeWalk s addr
 
-    go : (f t : Bool) → settle (answerOf (1 if f ∷ 21 if t ∷ walkRefusals a w)) s (accepted w) ≡ outcomeIn (cond f (refused 1) (cond t (refused 21) (arrived a (base s) addr w)))
-    go true t = refl
-    go false true = refl
-    go false false = arrived-outcome w (walk-in-region (base s) (blocks s) addr memory (active s))
+    go : (f g t : Bool) → Said (settle (answerOf (1 if f ∷ 1 if g ∷ 21 if t ∷ walkRefusals a w)) s (accepted w)) (walkLevel w) (cond f (refused 1) (cond g (refused 1) (cond t (refused 21) (arrived a (base s) addr w))))
+    go true g t = (refl, refl)
+    go false true t = (refl, refl)
+    go false false true = (refl, refl)
+    go false false false = arrived-said w (walk-in-region (base s) (blocks s) addr memory (active s))
 
-  pub outcome-is : {v : Verdict} {r b : ℕ} {m l : List ℕ} → v ≡ judged a s addr → r ≡ answerIn v → b ≡ byteIn a memory v → (m ≡ memoryIn a memory v) × (l ≡ ledgerIn a ledger v)
-      → (r ≡ guestOutcome a s addr .answer) × ((b ≡ guestOutcome a s addr .byte) × (lent m l ≡ guestOutcome a s addr .after))
-  outcome-is e p q (t, u) = rw (judged-outcome, ← e, p, q, t, u) (refl, (refl, refl))
+  pub outcome-is : {v : Verdict} {r b : ℕ} {m l : List ℕ} → v ≡ judged a s registers addr → r ≡ answerIn v → b ≡ byteIn a memory v → (m ≡ memoryIn a memory v) × (l ≡ ledgerIn a ledger v)
+      → (r ≡ guestOutcome a s registers addr .answer) × ((b ≡ guestOutcome a s registers addr .byte) × (lent m l ≡ guestOutcome a s registers addr .after))
+  outcome-is e p q (t, u) = rw (judged-said .0, ← e, p, q, t, u) (refl, (refl, refl))
+
+  pub registers-are : {v : Verdict} → v ≡ judged a s registers addr → registersIn a registers addr v ≡ guestRegisters a s registers addr
+  unfolding guestRegisters
+  registers-are e = rw e (sym (judged-said .1))

@@ -6,9 +6,12 @@ use Rattle.entries.specs.Entries.{Level}
 use Rattle.entries.specs.Meaning.{levelOf}
 use Rattle.entries.specs.Rights.{allows}
 use Rattle.rules.specs.Store.{Store, base, misfitStored}
-use Rattle.rules.specs.Guest.{Walk, stops, ends, byteIndex, Access, reads, fetches, writes, needed, noActiveTable, activeWalk, written, unmarked, byteGiven}
+use Rattle.rules.specs.Registers.{misfitRegisters, Abort, dataAbort, prefetchAbort}
+use Rattle.rules.specs.Guest.{Walk, stops, ends, byteIndex, Access, reads, fetches, writes, needed, noActiveTable, activeWalk, written, unmarked, byteGiven, registersAfter}
 use Rattle.guest.specs.declared.walk.Walk as walk
 use Rattle.guest.specs.declared.walk.Walk.the-variants.{Stops, Ends}
+use Rattle.guest.specs.declared.registers.Abort as abort
+use Rattle.guest.specs.declared.registers.Abort.the-variants.{Data, Prefetch}
 use Rattle.guest.specs.declared.access.Access as access
 use Rattle.guest.specs.declared.access.Access.the-variants.{Read, Fetch, Write}
 use Rattle.guest.specs.declared.access.Verdict as verdict
@@ -18,6 +21,11 @@ use Rattle.guest.specs.declared.access.Verdict.the-variants.{Refused, St
 abbrev pub walkOf : walk.Walk → Walk
 walkOf (Stops k v) = stops (levelOf v) k
 walkOf (Ends p r v) = ends (levelOf v) p r
+
+-- forms 9: the abort that a value stands for
+abbrev pub abortOf : abort.Abort → Abort
+abortOf Data = dataAbort
+abortOf Prefetch = prefetchAbort
 
 -- forms 9: the access that a value stands for
 abbrev pub accessOf : access.Access → Access
@@ -43,11 +51,12 @@ arrived a B addr (stops v k) = stopped v k
 arrived a B addr (ends v p r) = cond (allows r (needed a)) (allowed (byteIndex B addr (ends v p r))) (stopped v 23)
 
 -- guest list: the verdict on an access
-unfoldable pub judged : Access → Store → ℕ → Verdict
-judged a s addr =
+unfoldable pub judged : Access → Store → List ℕ → ℕ → Verdict
+judged a s registers addr =
     cond (misfitStored s) (refused 1)
+    (cond (misfitRegisters registers) (refused 1)
     (cond (noActiveTable s) (refused 21)
-    (arrived a (base s) addr (activeWalk s addr)))
+    (arrived a (base s) addr (activeWalk s addr))))
 
 -- calls 2: the answer of a verdict
 unfoldable pub answerIn : Verdict → ℕ
@@ -72,3 +81,9 @@ unfoldable pub ledgerIn : Access → List ℕ → Verdict → List ℕ
 ledgerIn a ledger (refused k) = ledger
 ledgerIn a ledger (stopped v k) = ledger
 ledgerIn a ledger (allowed j) = unmarked a ledger j
+
+-- registers 6, registers 7: the registers that an access leaves by its verdict
+unfoldable pub registersIn : Access → List ℕ → ℕ → Verdict → List ℕ
+registersIn a registers addr (refused k) = registers
+registersIn a registers addr (stopped v k) = registersAfter a registers addr v k
+registersIn a registers addr (allowed j) = registers

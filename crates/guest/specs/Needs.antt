@@ -5,6 +5,7 @@ use Prim.Native.Nat.{ℕ, zero, suc, _+_, _*_, _/_, _<_, _≤_}
 use lib.ListN.{length}
 use Rattle.entries.specs.Entries.{Entry, Level}
 use Rattle.rules.specs.Store.{blockBytes, physicalBlocks}
+use Rattle.rules.specs.Registers.{registersBytes}
 use Rattle.rules.specs.Guest.{Walk, stops, ends, passes}
 use Rattle.ledger.specs.Needs.{InLedger}
 use Rattle.guest.specs.Meaning.{Verdict, refused, stopped, allowed}
@@ -39,3 +40,9 @@ unfoldable pub Recorded : List ℕ → Verdict → Type 0
 Recorded ledger (refused k) = Unit {0}
 Recorded ledger (stopped v k) = Unit {0}
 Recorded ledger (allowed j) = InLedger ledger (j / blockBytes + 1)
+
+-- calls 1, registers 1: of a refusal along the walk registers of the right length can tell
+unfoldable pub Reportable : List ℕ → Verdict → Type 0
+Reportable registers (refused k) = Unit {0}
+Reportable registers (stopped v k) = length registers ≡ registersBytes
+Reportable registers (allowed j) = Unit {0}

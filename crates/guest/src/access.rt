@@ -1,4 +1,10 @@
 // The guest's accesses (RULES: guest): all is judged before the byte is read or stored.
+use crate::registers::Abort;
+use crate::registers::is_misfit_registers;
+use crate::registers::permission_code;
+use crate::registers::put_fault;
+use crate::registers::status_word;
+use crate::registers::translation_code;
 use crate::walk::Walk;
 use crate::walk::walk_tables;
 use entries::entry::Level;
@@ -9,6 +15,7 @@ use ledger::layout::active;
 use ledger::layout::base;
 use ledger::marks::clear_mark;
 use ledger::refusals::ACCEPTED;
+use ledger::refusals::FAULT_ENTRY;
 use ledger::refusals::MISFIT;
 use ledger::refusals::NO_ACTIVE_TABLE;
 use ledger::refusals::RIGHT_LACKING;
@@ -18,15 +25,18 @@ use ledger::region::is_outside;
 use ledger::table::L1_BLOCKS;
 ghost use mathlib.Core.Bool.{_||_};
 ghost use mathlib.Core.Path.{_≡_};
-ghost use Prim.Native.Nat.{_+_, _≤_};
+ghost use Prim.Native.Nat.{_+_, _<_, _≤_};
+ghost use lib.ListN.{length};
 ghost use Rattle.entries.specs.Entries.{l1};
+ghost use Rattle.entries.specs.Meaning.{levelOf};
 ghost use Rattle.entries.specs.Rights.{allows};
 ghost use Rattle.rules.specs.General.{misaligned};
-ghost use Rattle.rules.specs.Guest.{fetches, guestOutcome, needed, reads, writes};
+ghost use Rattle.rules.specs.Guest.{fetches, guestOutcome, guestRegisters, needed, raised, reads, registersAfter, writeBit, writes};
+ghost use Rattle.rules.specs.Registers.{registersBytes};
 ghost use Rattle.rules.specs.Store.{lent, outside, physicalBlocks};
 ghost use Rattle.rules.specs.Tables.{tableBlocks};
-ghost use Rattle.guest.specs.Meaning.{accessOf, answerIn, arrived, byteIn, judged, ledgerIn, memoryIn, verdictOf, walkOf};
-ghost use Rattle.guest.specs.Needs.{EndsFrom, InMemory, Recorded};
+ghost use Rattle.guest.specs.Meaning.{abortOf, accessOf, answerIn, arrived, byteIn, judged, ledgerIn, memoryIn, registersIn, verdictOf, walkOf};
+ghost use Rattle.guest.specs.Needs.{EndsFrom, InMemory, Recorded, Reportable};
 
 enum Access {
     Read,
@@ -90,10 +100,13 @@ fn arrive(walk: Walk, access: Access, first: u32, address: u32) -> Verdict
     }
 }
 
-fn judge(memory: &[u8], ledger: &[u8], access: Access, address: u32) -> Verdict
-    ensures { λ r. ⌜ verdictOf r ≡ judged (accessOf access) (lent (now (memory .entry)) (now (ledger .entry))) address ⌝ }
+fn judge(memory: &[u8], ledger: &[u8], registers: &[u8], access: Access, address: u32) -> Verdict
+    ensures { λ r. ⌜ verdictOf r ≡ judged (accessOf access) (lent (now (memory .entry)) (now (ledger .entry))) (now (registers .entry)) address ⌝ }
 {
     if is_misfit_stored(memory, ledger) {
+        return Verdict::Refused(MISFIT);
+    }
+    if is_misfit_registers(registers) {
         return Verdict::Refused(MISFIT);
     }
     let first = base(ledger);
@@ -108,6 +121,59 @@ fn judge(memory: &[u8], ledger: &[u8], access: Access, address: u32) -> Verdict
         first,
         address,
     )
+}
+
+// The abort that a fault of an access raises (registers 6).
+fn raised(access: Access) -> Abort
+    ensures { λ r. ⌜ abortOf r ≡ raised (accessOf access) ⌝ }
+{
+    match access {
+        Access::Read => Abort::Data,
+        Access::Fetch => Abort::Prefetch,
+        Access::Write(_) => Abort::Data,
+    }
+}
+
+// The bit of a status that tells of a write (registers 4).
+fn write_bit(access: Access) -> u32
+    ensures { λ r. ⌜ r ≡ writeBit (accessOf access) ⌝ }
+    ensures { λ r. ⌜ r < 2 ⌝ }
+{
+    match access {
+        Access::Read => 0,
+        Access::Fetch => 0,
+        Access::Write(_) => 1,
+    }
+}
+
+// Tells of a fault of an access whose walk stopped or ended at an entry of a level; another refusal there is none (registers 6, registers 7).
+fn report_stop(registers: &mut [u8], access: Access, number: u32, level: Level, address: u32)
+    requires { ⌜ length (now registers) ≡ registersBytes ⌝ }
+    ensures { λ r. ⌜ now (registers .exit) ≡ registersAfter (accessOf access) (now (registers .entry)) address (levelOf level) number ⌝ }
+{
+    if number == FAULT_ENTRY {
+        let status = status_word(translation_code(level), write_bit(access));
+        put_fault(registers, raised(access), status, address);
+        return;
+    }
+    if number == RIGHT_LACKING {
+        let status = status_word(permission_code(level), write_bit(access));
+        put_fault(registers, raised(access), status, address);
+    }
+}
+
+// Tells of a fault of an access, by its verdict.
+fn report(verdict: Verdict, registers: &mut [u8], access: Access, address: u32)
+    requires { ⌜ Reportable (now registers) (verdictOf verdict) ⌝ }
+    ensures { λ r. ⌜ now (registers .exit) ≡ registersIn (accessOf access) (now (registers .entry)) address (verdictOf verdict) ⌝ }
+{
+    match verdict {
+        Verdict::Refused(_) => {}
+        Verdict::Stopped { number, level } => {
+            report_stop(registers, access, number, level, address);
+        }
+        Verdict::Allowed(_) => {}
+    }
 }
 
 // Gives the byte, or 0 with a refusal (calls 5, guest byte).
@@ -146,26 +212,40 @@ fn store(verdict: Verdict, memory: &mut [u8], ledger: &mut [u8], byte: u32) -> u
     }
 }
 
-pub fn read(memory: &[u8], ledger: &[u8], address: u32, byte: &mut u8) -> u32
-    ensures { λ r. ⌜ r ≡ guestOutcome reads (lent (now (memory .entry)) (now (ledger .entry))) address .answer ⌝ }
-    ensures { λ r. ⌜ now (byte .exit) ≡ guestOutcome reads (lent (now (memory .entry)) (now (ledger .entry))) address .byte ⌝ }
-    ensures { λ r. ⌜ lent (now (memory .entry)) (now (ledger .entry)) ≡ guestOutcome reads (lent (now (memory .entry)) (now (ledger .entry))) address .after ⌝ }
+pub fn read(memory: &[u8], ledger: &[u8], registers: &mut [u8], address: u32, byte: &mut u8) -> u32
+    ensures { λ r. ⌜ r ≡ guestOutcome reads (lent (now (memory .entry)) (now (ledger .entry))) (now (registers .entry)) address .answer ⌝ }
+    ensures { λ r. ⌜ now (byte .exit) ≡ guestOutcome reads (lent (now (memory .entry)) (now (ledger .entry))) (now (registers .entry)) address .byte ⌝ }
+    ensures { λ r. ⌜ lent (now (memory .entry)) (now (ledger .entry)) ≡ guestOutcome reads (lent (now (memory .entry)) (now (ledger .entry))) (now (registers .entry)) address .after ⌝ }
+    ensures { λ r. ⌜ now (registers .exit) ≡ guestRegisters reads (lent (now (memory .entry)) (now (ledger .entry))) (now (registers .entry)) address ⌝ }
 {
-    give(judge(memory, ledger, Access::Read, address), memory, byte)
+    let verdict = judge(memory, ledger, registers, Access::Read, address);
+    report(verdict, registers, Access::Read, address);
+    give(verdict, memory, byte)
 }
 
-pub fn fetch(memory: &[u8], ledger: &[u8], address: u32, byte: &mut u8) -> u32
-    ensures { λ r. ⌜ r ≡ guestOutcome fetches (lent (now (memory .entry)) (now (ledger .entry))) address .answer ⌝ }
-    ensures { λ r. ⌜ now (byte .exit) ≡ guestOutcome fetches (lent (now (memory .entry)) (now (ledger .entry))) address .byte ⌝ }
-    ensures { λ r. ⌜ lent (now (memory .entry)) (now (ledger .entry)) ≡ guestOutcome fetches (lent (now (memory .entry)) (now (ledger .entry))) address .after ⌝ }
+pub fn fetch(memory: &[u8], ledger: &[u8], registers: &mut [u8], address: u32, byte: &mut u8) -> u32
+    ensures { λ r. ⌜ r ≡ guestOutcome fetches (lent (now (memory .entry)) (now (ledger .entry))) (now (registers .entry)) address .answer ⌝ }
+    ensures { λ r. ⌜ now (byte .exit) ≡ guestOutcome fetches (lent (now (memory .entry)) (now (ledger .entry))) (now (registers .entry)) address .byte ⌝ }
+    ensures { λ r. ⌜ lent (now (memory .entry)) (now (ledger .entry)) ≡ guestOutcome fetches (lent (now (memory .entry)) (now (ledger .entry))) (now (registers .entry)) address .after ⌝ }
+    ensures { λ r. ⌜ now (registers .exit) ≡ guestRegisters fetches (lent (now (memory .entry)) (now (ledger .entry))) (now (registers .entry)) address ⌝ }
 {
-    give(judge(memory, ledger, Access::Fetch, address), memory, byte)
+    let verdict = judge(memory, ledger, registers, Access::Fetch, address);
+    report(verdict, registers, Access::Fetch, address);
+    give(verdict, memory, byte)
 }
 
-pub fn write(memory: &mut [u8], ledger: &mut [u8], address: u32, byte: u32) -> u32
-    ensures { λ r. ⌜ r ≡ guestOutcome (writes byte) (lent (now (memory .entry)) (now (ledger .entry))) address .answer ⌝ }
-    ensures { λ r. ⌜ lent (now (memory .exit)) (now (ledger .exit)) ≡ guestOutcome (writes byte) (lent (now (memory .entry)) (now (ledger .entry))) address .after ⌝ }
+pub fn write(
+    memory: &mut [u8],
+    ledger: &mut [u8],
+    registers: &mut [u8],
+    address: u32,
+    byte: u32,
+) -> u32
+    ensures { λ r. ⌜ r ≡ guestOutcome (writes byte) (lent (now (memory .entry)) (now (ledger .entry))) (now (registers .entry)) address .answer ⌝ }
+    ensures { λ r. ⌜ lent (now (memory .exit)) (now (ledger .exit)) ≡ guestOutcome (writes byte) (lent (now (memory .entry)) (now (ledger .entry))) (now (registers .entry)) address .after ⌝ }
+    ensures { λ r. ⌜ now (registers .exit) ≡ guestRegisters (writes byte) (lent (now (memory .entry)) (now (ledger .entry))) (now (registers .entry)) address ⌝ }
 {
-    let verdict = judge(memory, ledger, Access::Write(byte), address);
+    let verdict = judge(memory, ledger, registers, Access::Write(byte), address);
+    report(verdict, registers, Access::Write(byte), address);
     store(verdict, memory, ledger, byte)
 }

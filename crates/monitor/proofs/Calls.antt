@@ -1,4 +1,4 @@
--- Lists 7 to 12, 14 and 15 hold of every sequence of calls (lists 13): whoever makes them, they leave and hand out what a run of their steps does.
+-- Lists 7 to 12 and 14 to 16 hold of every sequence of calls (lists 13): whoever makes them, they leave and hand out what a run of their steps does.
 use mathlib.Core.List.{List, [], _∷_, _++_}
 use mathlib.Core.Path.{_≡_, refl, sym, _∙_, ap}
 use Prim.Native.Nat.{ℕ}
@@ -8,12 +8,13 @@ use Rattle.entries.specs.Entries.{l1, l2}
 use Rattle.rules.specs.Store.{Store}
 use Rattle.rules.specs.Tables.{sections, pages, larges}
 use Rattle.rules.specs.Guest.{reads, fetches, writes}
-use Rattle.rules.specs.Steps.{Step, begins, creates, frees, maps, links, unmaps, switches, accesses, forgets, obey, run, runBy}
+use Rattle.rules.specs.Steps.{Step, begins, creates, frees, maps, links, unmaps, switches, accesses, acknowledges, forgets, obey, run, runBy}
 use Rattle.rules.specs.Demand3.{storeAt}
 use Rattle.rules.specs.Upheld.{Upholds}
+use Rattle.rules.proofs.Acknowledging.{acknowledge-after}
 use Rattle.rules.proofs.Outcomes.{begin-byte, create-byte, free-byte, map-byte, link-byte, unmap-byte, switch-byte, write-byte, forget-byte}
 use Rattle.rules.proofs.Upheld.{run-upholds-demand3}
-use Rattle.monitor.specs.Calls.{Called, pagemon-begin, pagemon-begin-kinds, pagemon-create-l1, pagemon-create-l2, pagemon-free-l1, pagemon-free-l2, pagemon-map-l1, pagemon-map-l1-kind, pagemon-map-l2, pagemon-map-l2-kind, pagemon-map-large, pagemon-map-large-kind, pagemon-link, pagemon-unmap-l1, pagemon-unmap-l2, pagemon-unmap-large, pagemon-switch, pagemon-read, pagemon-fetch, pagemon-write, pagemon-forget, Calls, done, call}
+use Rattle.monitor.specs.Calls.{Called, pagemon-begin, pagemon-begin-kinds, pagemon-create-l1, pagemon-create-l2, pagemon-free-l1, pagemon-free-l2, pagemon-map-l1, pagemon-map-l1-kind, pagemon-map-l2, pagemon-map-l2-kind, pagemon-map-large, pagemon-map-large-kind, pagemon-link, pagemon-unmap-l1, pagemon-unmap-l2, pagemon-unmap-large, pagemon-switch, pagemon-read, pagemon-fetch, pagemon-write, pagemon-acknowledge, pagemon-forget, Calls, done, call}
 
 -- a call obeys its step
 pub called-obeys : {golden : List ℕ} {s after : Store} {step : Step} {answer byte : ℕ} → Called golden s step after answer byte
@@ -38,7 +39,8 @@ called-obeys (pagemon-unmap-large a l) = (a, (unmap-byte _ _ _ _, l))
 called-obeys (pagemon-switch a l) = (a, (switch-byte _ _, l))
 called-obeys (pagemon-read a b l) = (a, (b, l))
 called-obeys (pagemon-fetch a b l) = (a, (b, l))
-called-obeys (pagemon-write a l) = (a, (write-byte _ _ _, l))
+called-obeys (pagemon-write a l) = (a, (write-byte _ _ _ _, l))
+called-obeys (pagemon-acknowledge a b) = (a, (b, sym (acknowledge-after _ _)))
 called-obeys (pagemon-forget a l) = (a, (forget-byte _ _ _, l))
 
 -- a sequence of calls is a run of its steps
@@ -51,7 +53,7 @@ calls-run (call c cs) =
     let (reached, (said, given)) = rw l at (calls-run cs) in
     (reached, (rw (a, said) refl, rw (b, given) refl))
 
--- the named theorem, lists 13: lists 7 to 12, 14 and 15 of exactly what is left and handed out by every sequence of calls, whoever makes them, over whatever was lent
+-- the named theorem, lists 13: lists 7 to 12 and 14 to 16 of exactly what is left and handed out by every sequence of calls, whoever makes them, over whatever was lent
 pub calls-uphold-demand3 : {golden : List ℕ} {s left : Store} {steps : List Step} {answers bytes : List ℕ}
     → Calls golden s steps left answers bytes → Upholds golden s steps left answers bytes
 calls-uphold-demand3 {golden} {s} {left} {steps} cs =
@@ -79,9 +81,10 @@ step-called golden s (unmaps sections block index) = rw (← unmap-byte sections
 step-called golden s (unmaps pages block index) = rw (← unmap-byte pages s block index) (pagemon-unmap-l2 refl refl)
 step-called golden s (unmaps larges block index) = rw (← unmap-byte larges s block index) (pagemon-unmap-large refl refl)
 step-called golden s (switches block) = rw (← switch-byte s block) (pagemon-switch refl refl)
-step-called golden s (accesses reads address) = pagemon-read refl refl refl
-step-called golden s (accesses fetches address) = pagemon-fetch refl refl refl
-step-called golden s (accesses (writes byte) address) = rw (← write-byte byte s address) (pagemon-write refl refl)
+step-called golden s (accesses reads registers address) = pagemon-read refl refl refl
+step-called golden s (accesses fetches registers address) = pagemon-fetch refl refl refl
+step-called golden s (accesses (writes byte) registers address) = rw (← write-byte byte s registers address) (pagemon-write refl refl)
+step-called golden s (acknowledges registers) = rw (acknowledge-after s registers) (pagemon-acknowledge refl refl)
 step-called golden s (forgets block count) = rw (← forget-byte s block count) (pagemon-forget refl refl)
 
 -- so there is a sequence of calls for every list of steps: the theorem leaves none out

@@ -12,12 +12,13 @@ use Rattle.rules.specs.Map.{firstKind, mapOutcome}
 use Rattle.rules.specs.Link.{linkOutcome}
 use Rattle.rules.specs.Unmap.{unmapOutcome}
 use Rattle.rules.specs.Switch.{switchOutcome}
+use Rattle.rules.specs.Registers.{acknowledgeOutcome}
 use Rattle.rules.specs.Guest.{reads, fetches, writes, guestOutcome}
 use Rattle.rules.specs.Forget.{forgetOutcome}
-use Rattle.rules.specs.Steps.{Step, begins, creates, frees, maps, links, unmaps, switches, accesses, forgets}
+use Rattle.rules.specs.Steps.{Step, begins, creates, frees, maps, links, unmaps, switches, accesses, acknowledges, forgets}
 
 -- promises 1, lists 13: one call of an export, lent an image and a store, by its contract: its step, the store afterwards, its answer, and the byte
--- that it gives (0 where it gives none); the number of blocks hashed is left out
+-- that it gives (0 where it gives none); the number of blocks hashed and the registers that are left are left out
 pub data Called (golden : List ℕ) (s : Store) : Step → Store → ℕ → ℕ → Type 0 where
   pagemon-begin : {first answer : ℕ} {after : Store} → answer ≡ beginOutcome s cachedKinds first .answer → after ≡ beginOutcome s cachedKinds first .after
       → Called golden s (begins cachedKinds first) after answer 0
@@ -60,15 +61,17 @@ pub data Called (golden : List ℕ) (s : Store) : Step → Store → ℕ → ℕ
       → Called golden s (unmaps larges block index) after answer 0
   pagemon-switch : {block answer : ℕ} {after : Store} → answer ≡ switchOutcome s block .answer → after ≡ switchOutcome s block .after
       → Called golden s (switches block) after answer 0
-  pagemon-read : {address answer byte : ℕ} {after : Store}
-      → answer ≡ guestOutcome reads s address .answer → byte ≡ guestOutcome reads s address .byte → after ≡ guestOutcome reads s address .after
-      → Called golden s (accesses reads address) after answer byte
-  pagemon-fetch : {address answer byte : ℕ} {after : Store}
-      → answer ≡ guestOutcome fetches s address .answer → byte ≡ guestOutcome fetches s address .byte → after ≡ guestOutcome fetches s address .after
-      → Called golden s (accesses fetches address) after answer byte
-  pagemon-write : {address byte answer : ℕ} {after : Store}
-      → answer ≡ guestOutcome (writes byte) s address .answer → after ≡ guestOutcome (writes byte) s address .after
-      → Called golden s (accesses (writes byte) address) after answer 0
+  pagemon-read : {registers : List ℕ} {address answer byte : ℕ} {after : Store}
+      → answer ≡ guestOutcome reads s registers address .answer → byte ≡ guestOutcome reads s registers address .byte → after ≡ guestOutcome reads s registers address .after
+      → Called golden s (accesses reads registers address) after answer byte
+  pagemon-fetch : {registers : List ℕ} {address answer byte : ℕ} {after : Store}
+      → answer ≡ guestOutcome fetches s registers address .answer → byte ≡ guestOutcome fetches s registers address .byte → after ≡ guestOutcome fetches s registers address .after
+      → Called golden s (accesses fetches registers address) after answer byte
+  pagemon-write : {registers : List ℕ} {address byte answer : ℕ} {after : Store}
+      → answer ≡ guestOutcome (writes byte) s registers address .answer → after ≡ guestOutcome (writes byte) s registers address .after
+      → Called golden s (accesses (writes byte) registers address) after answer 0
+  pagemon-acknowledge : {registers : List ℕ} {answer pending : ℕ} → answer ≡ acknowledgeOutcome s registers .answer → pending ≡ acknowledgeOutcome s registers .byte
+      → Called golden s (acknowledges registers) s answer pending
   pagemon-forget : {block count answer : ℕ} {after : Store} → answer ≡ forgetOutcome s block count .answer → after ≡ forgetOutcome s block count .after
       → Called golden s (forgets block count) after answer 0
 

@@ -1,5 +1,5 @@
 // The calls, exported to C (calls 1, forms 7). Their contracts ask nothing of the caller, and equate the answer, the byte or the number that
-// is given, and all of memory and ledger with the rules (promises 1).
+// is given, and all of memory, ledger and fault registers with the rules (promises 1).
 use entries::entry::Level;
 use mapping::form::Form;
 use mapping::request::FIRST_KIND;
@@ -10,10 +10,11 @@ ghost use Rattle.entries.specs.Entries.{l1, l2};
 ghost use Rattle.rules.specs.Create.{createOutcome};
 ghost use Rattle.rules.specs.Free.{freeOutcome};
 ghost use Rattle.rules.specs.Forget.{forgetOutcome};
-ghost use Rattle.rules.specs.Guest.{fetches, guestOutcome, reads, writes};
+ghost use Rattle.rules.specs.Guest.{fetches, guestOutcome, guestRegisters, reads, writes};
 ghost use Rattle.rules.specs.Link.{linkOutcome};
 ghost use Rattle.rules.specs.Map.{firstKind, mapOutcome};
-ghost use Rattle.rules.specs.Store.{lent};
+ghost use Rattle.rules.specs.Registers.{acknowledgeOutcome, acknowledgeRegisters};
+ghost use Rattle.rules.specs.Store.{Store, lent};
 ghost use Rattle.rules.specs.Switch.{switchOutcome};
 ghost use Rattle.rules.specs.Tables.{larges, pages, sections};
 ghost use Rattle.rules.specs.Unmap.{unmapOutcome};
@@ -326,24 +327,38 @@ pub extern "C" fn pagemon_switch(memory: &[u8], ledger: &mut [u8], block: u32) -
     mapping::switch::switch(memory, ledger, block)
 }
 
-// The guest reads the byte at an address.
+// The guest reads the byte at an address; the registers tell of a fault.
 #[no_mangle]
-pub extern "C" fn pagemon_read(memory: &[u8], ledger: &[u8], address: u32, byte: &mut u8) -> u32
-    ensures { λ r. ⌜ r ≡ guestOutcome reads (lent (now (memory .entry)) (now (ledger .entry))) address .answer ⌝ }
-    ensures { λ r. ⌜ now (byte .exit) ≡ guestOutcome reads (lent (now (memory .entry)) (now (ledger .entry))) address .byte ⌝ }
-    ensures { λ r. ⌜ lent (now (memory .entry)) (now (ledger .entry)) ≡ guestOutcome reads (lent (now (memory .entry)) (now (ledger .entry))) address .after ⌝ }
+pub extern "C" fn pagemon_read(
+    memory: &[u8],
+    ledger: &[u8],
+    registers: &mut [u8],
+    address: u32,
+    byte: &mut u8,
+) -> u32
+    ensures { λ r. ⌜ r ≡ guestOutcome reads (lent (now (memory .entry)) (now (ledger .entry))) (now (registers .entry)) address .answer ⌝ }
+    ensures { λ r. ⌜ now (byte .exit) ≡ guestOutcome reads (lent (now (memory .entry)) (now (ledger .entry))) (now (registers .entry)) address .byte ⌝ }
+    ensures { λ r. ⌜ lent (now (memory .entry)) (now (ledger .entry)) ≡ guestOutcome reads (lent (now (memory .entry)) (now (ledger .entry))) (now (registers .entry)) address .after ⌝ }
+    ensures { λ r. ⌜ now (registers .exit) ≡ guestRegisters reads (lent (now (memory .entry)) (now (ledger .entry))) (now (registers .entry)) address ⌝ }
 {
-    guest::access::read(memory, ledger, address, byte)
+    guest::access::read(memory, ledger, registers, address, byte)
 }
 
 // The guest fetches the byte at an address, to execute it.
 #[no_mangle]
-pub extern "C" fn pagemon_fetch(memory: &[u8], ledger: &[u8], address: u32, byte: &mut u8) -> u32
-    ensures { λ r. ⌜ r ≡ guestOutcome fetches (lent (now (memory .entry)) (now (ledger .entry))) address .answer ⌝ }
-    ensures { λ r. ⌜ now (byte .exit) ≡ guestOutcome fetches (lent (now (memory .entry)) (now (ledger .entry))) address .byte ⌝ }
-    ensures { λ r. ⌜ lent (now (memory .entry)) (now (ledger .entry)) ≡ guestOutcome fetches (lent (now (memory .entry)) (now (ledger .entry))) address .after ⌝ }
+pub extern "C" fn pagemon_fetch(
+    memory: &[u8],
+    ledger: &[u8],
+    registers: &mut [u8],
+    address: u32,
+    byte: &mut u8,
+) -> u32
+    ensures { λ r. ⌜ r ≡ guestOutcome fetches (lent (now (memory .entry)) (now (ledger .entry))) (now (registers .entry)) address .answer ⌝ }
+    ensures { λ r. ⌜ now (byte .exit) ≡ guestOutcome fetches (lent (now (memory .entry)) (now (ledger .entry))) (now (registers .entry)) address .byte ⌝ }
+    ensures { λ r. ⌜ lent (now (memory .entry)) (now (ledger .entry)) ≡ guestOutcome fetches (lent (now (memory .entry)) (now (ledger .entry))) (now (registers .entry)) address .after ⌝ }
+    ensures { λ r. ⌜ now (registers .exit) ≡ guestRegisters fetches (lent (now (memory .entry)) (now (ledger .entry))) (now (registers .entry)) address ⌝ }
 {
-    guest::access::fetch(memory, ledger, address, byte)
+    guest::access::fetch(memory, ledger, registers, address, byte)
 }
 
 // The guest writes a byte at an address.
@@ -351,13 +366,25 @@ pub extern "C" fn pagemon_fetch(memory: &[u8], ledger: &[u8], address: u32, byte
 pub extern "C" fn pagemon_write(
     memory: &mut [u8],
     ledger: &mut [u8],
+    registers: &mut [u8],
     address: u32,
     byte: u32,
 ) -> u32
-    ensures { λ r. ⌜ r ≡ guestOutcome (writes byte) (lent (now (memory .entry)) (now (ledger .entry))) address .answer ⌝ }
-    ensures { λ r. ⌜ lent (now (memory .exit)) (now (ledger .exit)) ≡ guestOutcome (writes byte) (lent (now (memory .entry)) (now (ledger .entry))) address .after ⌝ }
+    ensures { λ r. ⌜ r ≡ guestOutcome (writes byte) (lent (now (memory .entry)) (now (ledger .entry))) (now (registers .entry)) address .answer ⌝ }
+    ensures { λ r. ⌜ lent (now (memory .exit)) (now (ledger .exit)) ≡ guestOutcome (writes byte) (lent (now (memory .entry)) (now (ledger .entry))) (now (registers .entry)) address .after ⌝ }
+    ensures { λ r. ⌜ now (registers .exit) ≡ guestRegisters (writes byte) (lent (now (memory .entry)) (now (ledger .entry))) (now (registers .entry)) address ⌝ }
 {
-    guest::access::write(memory, ledger, address, byte)
+    guest::access::write(memory, ledger, registers, address, byte)
+}
+
+// Acknowledge: the pending byte of the fault registers is given and cleared. It is lent no store, so that its promise is the same for every one.
+#[no_mangle]
+pub extern "C" fn pagemon_acknowledge(registers: &mut [u8], pending: &mut u8) -> u32
+    ensures { λ r. ⌜ ((s : Store) → r ≡ acknowledgeOutcome s (now (registers .entry)) .answer) ⌝ }
+    ensures { λ r. ⌜ ((s : Store) → now (pending .exit) ≡ acknowledgeOutcome s (now (registers .entry)) .byte) ⌝ }
+    ensures { λ r. ⌜ now (registers .exit) ≡ acknowledgeRegisters (now (registers .entry)) ⌝ }
+{
+    guest::registers::acknowledge(registers, pending)
 }
 
 // Forget: the marks of adjacent blocks are cleared.

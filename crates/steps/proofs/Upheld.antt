@@ -1,4 +1,4 @@
--- Lists 7 to 12, 14 and 15 hold of what the runner leaves and hands out (runner 3): it is what a run leaves and hands out.
+-- Lists 7 to 12 and 14 to 16 hold of what the runner leaves and hands out (runner 3): it is what a run leaves and hands out.
 use mathlib.Core.List.{List}
 use mathlib.Core.Path.{_≡_, sym, _∙_}
 use Prim.Native.Nat.{ℕ, _+_, _≤_}
@@ -20,7 +20,7 @@ use Rattle.steps.proofs.Running.{Ended}
 standing : (xs vs : List ℕ) (n : ℕ) → n ≡ length vs → n ≤ length xs → take n (putList xs 0 vs) ≡ vs
 standing xs vs n e h = rw (putList-between xs 0 vs (omega arith), e) (take-append-seam vs (drop (0 + length vs) xs))
 
--- runner 3: lists 7 to 12, 14 and 15 of exactly the bytes that the runner leaves and hands out
+-- runner 3: lists 7 to 12 and 14 to 16 of exactly the bytes that the runner leaves and hands out
 pub runner-upholds-demand3 : (golden : List ℕ) (s : Store) (records answers₀ bytes₀ : List ℕ) {n : ℕ} {left : Store} {answers bytes : List ℕ}
     → n ≡ length (stepsIn records (room answers₀ bytes₀))
     → left ≡ ran golden s records answers₀ bytes₀ .reached

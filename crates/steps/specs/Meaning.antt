@@ -4,6 +4,7 @@ use Rattle.entries.specs.Entries.{l1, l2}
 use Rattle.rules.specs.Tables.{sections, pages, larges}
 use Rattle.rules.specs.Begin.{cachedKinds}
 use Rattle.rules.specs.Map.{firstKind}
+use Rattle.rules.specs.Registers.{clearRegisters}
 use Rattle.rules.specs.Guest.{reads, writes, fetches}
 use Rattle.rules.specs.Steps as steps
 use Rattle.rules.specs.Steps.{begins, creates, frees, maps, links, unmaps, switches, accesses}
@@ -25,9 +26,9 @@ meaning (Link block index target table) = links block index target table
 meaning (UnmapL1 block index) = unmaps sections block index
 meaning (UnmapL2 block index) = unmaps pages block index
 meaning (Switch block) = switches block
-meaning (Read address) = accesses reads address
-meaning (Write address byte) = accesses (writes byte) address
-meaning (Fetch address) = accesses fetches address
+meaning (Read address) = accesses reads clearRegisters address
+meaning (Write address byte) = accesses (writes byte) clearRegisters address
+meaning (Fetch address) = accesses fetches clearRegisters address
 meaning (MapLarge block index target rights) = maps larges block index target rights firstKind
 meaning (UnmapLarge block index) = unmaps larges block index
 

@@ -11,10 +11,11 @@ use Rattle.rules.specs.Store.{Store}
 use Rattle.rules.specs.Tables.{sections, pages, larges}
 use Rattle.rules.specs.Begin.{cachedKinds}
 use Rattle.rules.specs.Map.{firstKind}
+use Rattle.rules.specs.Registers.{clearRegisters}
 use Rattle.rules.specs.Guest.{reads, writes, fetches}
 use Rattle.rules.specs.Steps.{Step, begins, creates, frees, maps, links, unmaps, switches, accesses, Run, run}
 
--- program 2, program 3: the step of each call byte, from 0 on, with these four words as its arguments; 0 has none
+-- program 2, program 3, runner 2: the step of each call byte, from 0 on, with these four words as its arguments; 0 has none
 abbrev pub calls : ℕ → ℕ → ℕ → ℕ → List (Option Step)
 calls a b c d =
     none
@@ -29,9 +30,9 @@ calls a b c d =
     ∷ some (unmaps sections a b)
     ∷ some (unmaps pages a b)
     ∷ some (switches a)
-    ∷ some (accesses reads a)
-    ∷ some (accesses (writes b) a)
-    ∷ some (accesses fetches a)
+    ∷ some (accesses reads clearRegisters a)
+    ∷ some (accesses (writes b) clearRegisters a)
+    ∷ some (accesses fetches clearRegisters a)
     ∷ some (maps larges a b c d firstKind)
     ∷ some (unmaps larges a b)
     ∷ []

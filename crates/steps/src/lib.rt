@@ -15,7 +15,7 @@ pub mod runner; // runner.rt: a record is obeyed
 pub mod step; // step.rt: a step calls the monitor
 
 // Obeys the records up to the first that holds no step, as many as there is room for their answers and bytes, and says how many they were (runner 1,
-// runner 2). Lists 7 to 12, 14 and 15 hold of what is left and handed out (runner 3).
+// runner 2). Lists 7 to 12 and 14 to 16 hold of what is left and handed out (runner 3).
 #[no_mangle]
 pub extern "C" fn pagemon_run(
     memory: &mut [u8],

@@ -1,9 +1,13 @@
 // One step: a call of the monitor with its arguments.
 ghost use mathlib.Core.Path.{_≡_};
-ghost use Rattle.rules.specs.Guest.{fetches, guestOutcome, reads};
+ghost use Rattle.rules.specs.Guest.{fetches, guestOutcome, reads, writes};
+ghost use Rattle.rules.specs.Registers.{clearRegisters};
 ghost use Rattle.rules.specs.Steps.{obey};
 ghost use Rattle.rules.specs.Store.{lent};
 ghost use Rattle.steps.specs.Meaning.{meaning};
+
+// The fault registers that a guest step is lent (runner 2).
+const CLEAR_REGISTERS: [u8; 17] = [0; 17];
 
 // The calls in the order of their call bytes, with their arguments in the order of a record's words.
 pub enum Step {
@@ -44,29 +48,40 @@ fn only(answer: u32) -> Reply
     Reply { answer, byte: 0 }
 }
 
-// The guest's read, with the byte in its reply.
+// The guest's read, lent registers of its own, with the byte in its reply.
 fn read(memory: &[u8], ledger: &[u8], address: u32) -> Reply
-    ensures { λ r. ⌜ r .answer ≡ guestOutcome reads (lent (now (memory .entry)) (now (ledger .entry))) address .answer ⌝ }
-    ensures { λ r. ⌜ r .byte ≡ guestOutcome reads (lent (now (memory .entry)) (now (ledger .entry))) address .byte ⌝ }
-    ensures { λ r. ⌜ lent (now (memory .entry)) (now (ledger .entry)) ≡ guestOutcome reads (lent (now (memory .entry)) (now (ledger .entry))) address .after ⌝ }
+    ensures { λ r. ⌜ r .answer ≡ guestOutcome reads (lent (now (memory .entry)) (now (ledger .entry))) clearRegisters address .answer ⌝ }
+    ensures { λ r. ⌜ r .byte ≡ guestOutcome reads (lent (now (memory .entry)) (now (ledger .entry))) clearRegisters address .byte ⌝ }
+    ensures { λ r. ⌜ lent (now (memory .entry)) (now (ledger .entry)) ≡ guestOutcome reads (lent (now (memory .entry)) (now (ledger .entry))) clearRegisters address .after ⌝ }
 {
+    let mut registers = CLEAR_REGISTERS;
     let mut byte = 0;
-    let answer = monitor::pagemon_read(memory, ledger, address, &mut byte);
+    let answer = monitor::pagemon_read(memory, ledger, &mut registers, address, &mut byte);
     Reply { answer, byte }
 }
 
-// The guest's fetch, with the byte in its reply.
+// The guest's fetch, in the same way.
 fn fetch(memory: &[u8], ledger: &[u8], address: u32) -> Reply
-    ensures { λ r. ⌜ r .answer ≡ guestOutcome fetches (lent (now (memory .entry)) (now (ledger .entry))) address .answer ⌝ }
-    ensures { λ r. ⌜ r .byte ≡ guestOutcome fetches (lent (now (memory .entry)) (now (ledger .entry))) address .byte ⌝ }
-    ensures { λ r. ⌜ lent (now (memory .entry)) (now (ledger .entry)) ≡ guestOutcome fetches (lent (now (memory .entry)) (now (ledger .entry))) address .after ⌝ }
+    ensures { λ r. ⌜ r .answer ≡ guestOutcome fetches (lent (now (memory .entry)) (now (ledger .entry))) clearRegisters address .answer ⌝ }
+    ensures { λ r. ⌜ r .byte ≡ guestOutcome fetches (lent (now (memory .entry)) (now (ledger .entry))) clearRegisters address .byte ⌝ }
+    ensures { λ r. ⌜ lent (now (memory .entry)) (now (ledger .entry)) ≡ guestOutcome fetches (lent (now (memory .entry)) (now (ledger .entry))) clearRegisters address .after ⌝ }
 {
+    let mut registers = CLEAR_REGISTERS;
     let mut byte = 0;
-    let answer = monitor::pagemon_fetch(memory, ledger, address, &mut byte);
+    let answer = monitor::pagemon_fetch(memory, ledger, &mut registers, address, &mut byte);
     Reply { answer, byte }
 }
 
-// Obeys a step. How many blocks it hashed is not told.
+// The guest's write, lent such registers too.
+fn write(memory: &mut [u8], ledger: &mut [u8], address: u32, byte: u32) -> u32
+    ensures { λ r. ⌜ r ≡ guestOutcome (writes byte) (lent (now (memory .entry)) (now (ledger .entry))) clearRegisters address .answer ⌝ }
+    ensures { λ r. ⌜ lent (now (memory .exit)) (now (ledger .exit)) ≡ guestOutcome (writes byte) (lent (now (memory .entry)) (now (ledger .entry))) clearRegisters address .after ⌝ }
+{
+    let mut registers = CLEAR_REGISTERS;
+    monitor::pagemon_write(memory, ledger, &mut registers, address, byte)
+}
+
+// Obeys a step. How many blocks it hashed and what the registers tell is not handed on.
 pub fn obey(step: Step, memory: &mut [u8], ledger: &mut [u8], golden: &[u8]) -> Reply
     ensures { λ r. ⌜ r .answer ≡ obey (now (golden .entry)) (lent (now (memory .entry)) (now (ledger .entry))) (meaning step) .answer ⌝ }
     ensures { λ r. ⌜ r .byte ≡ obey (now (golden .entry)) (lent (now (memory .entry)) (now (ledger .entry))) (meaning step) .byte ⌝ }
@@ -133,7 +148,7 @@ pub fn obey(step: Step, memory: &mut [u8], ledger: &mut [u8], golden: &[u8]) -> 
         )),
         Step::Switch(block) => only(monitor::pagemon_switch(memory, ledger, block)),
         Step::Read(address) => read(memory, ledger, address),
-        Step::Write(address, byte) => only(monitor::pagemon_write(memory, ledger, address, byte)),
+        Step::Write(address, byte) => only(write(memory, ledger, address, byte)),
         Step::Fetch(address) => fetch(memory, ledger, address),
         Step::MapLarge(block, index, target, rights) => only(monitor::pagemon_map_large(
             memory,

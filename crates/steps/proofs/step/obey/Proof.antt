@@ -75,7 +75,7 @@ returns-12 c = let e = c .read .ensures in rw (c .before .before .before .before
 
 returns-13 : tie.Need-returns-13
 returns-13 c =
-    let e = c .before .before .before .before .before .pagemon-write .ensures in
+    let e = c .before .before .before .before .before .write .ensures in
     rw (c .before .before .before .before .before .before .before .before .before .step13 .given .1) (only-obeys (pagemon-write (e .0) (e .1)) (c .only12 .ensures))
 
 returns-14 : tie.Need-returns-14
