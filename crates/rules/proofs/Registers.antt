@@ -9,11 +9,13 @@ use lib.ListN.{length, getD, set, length-set}
 use lib.Seq.{getD-set-other, getD-set-same}
 use borrow.Author.Tests.{ne-eqb}
 use Rattle.words.specs.Words.{word, putWord}
+use Rattle.words.proofs.Bounded.{same}
 use Rattle.words.proofs.Words.{length-putWord, getD-putWord-other, word-cong, word-putWord-same, word-putWord-other}
 use Rattle.entries.specs.Entries.{Level, l1, l2}
 use Rattle.rules.specs.Refusals.{Refusal, _if_, answerOf}
 use Rattle.rules.specs.Store.{Store, misfitStored}
-use Rattle.rules.specs.Registers.{registersBytes, Abort, dataAbort, prefetchAbort, statusPlace, addressPlace, pendingPlace, misfitRegisters, Fault, translation, permission, faultCode, statusWord, putFault}
+use Rattle.rules.specs.Outcomes.{settle}
+use Rattle.rules.specs.Registers.{registersBytes, Abort, dataAbort, prefetchAbort, statusPlace, addressPlace, pendingPlace, misfitRegisters, Fault, translation, permission, faultCode, statusWord, putFault, acknowledgeOutcome, acknowledgeRegisters}
 use Rattle.rules.specs.Guest.{Access, reads, fetches, writes, activeWalk, walkRefusals, noActiveTable, guestRefusals, guestAccepted, guestOutcome, raised, writeBit, walkLevel, faulted, registersAfter, guestRegisters}
 use Rattle.rules.proofs.State.{equal}
 use Rattle.rules.proofs.Passing.{settle-answer}
@@ -113,3 +115,24 @@ module _ (a : Access) (s : Store) (registers : List ℕ) (addr : ℕ) where
   pub permission-told : addr < 2 ^ 32 → answer ≡ 23 → ToldOf (permission at)
   unfolding guestRegisters registersAfter
   permission-told narrow e = rw e (fault-told registers (raised a) _ addr (judged-registers (λ z. omega arith)) (status-fits a (permission at)) narrow)
+
+-- An acknowledge
+
+module _ (registers : List ℕ) (fits : length registers ≡ registersBytes) where
+  -- acknowledge byte: the pending byte is given, whatever it is
+  pub pending-given : (s : Store) → (acknowledgeOutcome s registers .answer ≡ 0) × (acknowledgeOutcome s registers .byte ≡ getD registers pendingPlace 0)
+  unfolding acknowledgeOutcome settle answerOf
+  pending-given s = rw (same (length registers) registersBytes fits) (refl, refl)
+
+  -- acknowledge leaves: it is 0 afterwards, and the four registers are as they were
+  pub registers-acknowledged : (acknowledgeRegisters registers ≡ set registers pendingPlace 0) × (getD (acknowledgeRegisters registers) pendingPlace 0 ≡ 0)
+  unfolding acknowledgeRegisters
+  registers-acknowledged = rw (same (length registers) registersBytes fits) (refl, getD-set-same registers pendingPlace 0 0 (omega arith))
+
+-- a fault is given once: the first acknowledge behind it gives 1, and the second 0
+pub fault-given-once : (s : Store) {registers after : List ℕ} {abort : Abort} {status addr : ℕ} → length registers ≡ registersBytes → Tells registers after abort status addr
+    → (acknowledgeOutcome s after .byte ≡ 1) × (acknowledgeOutcome s (acknowledgeRegisters after) .byte ≡ 0)
+fault-given-once s {registers} {after} fits t =
+    let fits-after = t .same-length ∙ fits in
+    let (cleared, zero-is) = registers-acknowledged after fits-after in
+    (pending-given after fits-after s .1 ∙ t .pending-is, pending-given (acknowledgeRegisters after) (rw cleared (length-set after pendingPlace 0 ∙ fits-after)) s .1 ∙ zero-is)

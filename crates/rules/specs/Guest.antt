@@ -138,6 +138,6 @@ registersAfter a registers addr v k =
     cond (eqb k 22) (faulted a registers addr (translation v))
     (cond (eqb k 23) (faulted a registers addr (permission v)) registers)
 
--- registers 6, registers 7: the registers that an access leaves
+-- promises 1, registers 6, registers 7: the registers that an access leaves
 unfoldable pub guestRegisters : Access → Store → List ℕ → ℕ → List ℕ
 guestRegisters a s registers addr = registersAfter a registers addr (walkLevel (activeWalk s addr)) (guestOutcome a s registers addr .answer)

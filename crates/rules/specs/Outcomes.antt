@@ -4,7 +4,8 @@ use Prim.Native.Nat.{ℕ, zero, suc}
 use Rattle.rules.specs.Refusals.{Refusal, answerOf}
 use Rattle.rules.specs.Store.{Store}
 
--- promises 1: all that is said of a call: its answer, memory and ledger afterwards, the byte that it gives, and the number of blocks hashed
+-- promises 1: all that is said of a call but what becomes of the fault registers: its answer, memory and ledger afterwards, the byte that it gives, and the
+-- number of blocks hashed
 pub record Outcome : Type 0 where
   pub answer : ℕ
   pub after : Store

@@ -73,6 +73,6 @@ acknowledgeAccepted s registers = record { store = s; byte = getD registers pend
 unfoldable pub acknowledgeOutcome : Store → List ℕ → Outcome
 acknowledgeOutcome s registers = callOutcome (acknowledgeRefusals registers) s (acknowledgeAccepted s registers)
 
--- acknowledge leaves: the registers afterwards: the pending byte is 0, if they are not refused
+-- promises 1, acknowledge leaves: the registers afterwards: the pending byte is 0, if they are not refused
 unfoldable pub acknowledgeRegisters : List ℕ → List ℕ
 acknowledgeRegisters registers = cond (misfitRegisters registers) registers (set registers pendingPlace 0)
