@@ -1,30 +1,32 @@
 /*
  * The paging monitor, as libmonitor.a exports it. docs/RULES.md states every rule in full, under the numbers that the calls answer.
  *
- * Buffers. The caller lends two or three byte buffers for the time of one call, each as a pointer and its length in bytes:
+ * Buffers. The caller lends one to three byte buffers for the time of one call, each as a pointer and its length in bytes:
  *
- *   memory   n blocks of PAGEMON_BLOCK_BYTES, n from PAGEMON_MIN_BLOCKS to PAGEMON_MAX_BLOCKS: the physical memory of the region.
- *   ledger   PAGEMON_LEDGER_BYTES(n) bytes, kept by the monitor, the lowest byte first: the region's first block number B and the first block
- *            of the active L1 table (PAGEMON_NO_TABLE for none), each a word of 32 bits; the eight memory kinds, two bytes each; and for each
- *            block five words: type, w, x, l, mark. w counts the table entries that let the guest write to the block, x those that let it
- *            execute from it, l the L1 entries that link to it. A block is marked if its mark is exactly PAGEMON_MARKED: create and map then
- *            take it for signed and do not hash it. They believe this of any ledger that they are lent.
- *   golden   the golden image: SHA-256 digests of PAGEMON_DIGEST_BYTES, one behind the other in any order, none or up to
- *            PAGEMON_MAX_DIGESTS. A block's digest is over its number, four bytes with the highest first, and then its 4,096 bytes: one digest
- *            signs contents in one block only. signature_block_digest of signature.h makes digests, and tools/golden images.
- *   kinds    PAGEMON_KINDS_BYTES bytes, the eight memory kinds of a region, as the ledger has them: pagemon_kind below.
+ *   memory     n blocks of PAGEMON_BLOCK_BYTES, n from PAGEMON_MIN_BLOCKS to PAGEMON_MAX_BLOCKS: the physical memory of the region.
+ *   ledger     PAGEMON_LEDGER_BYTES(n) bytes, kept by the monitor, the lowest byte first: the region's first block number B and the first block
+ *              of the active L1 table (PAGEMON_NO_TABLE for none), each a word of 32 bits; the eight memory kinds, two bytes each; and for each
+ *              block five words: type, w, x, l, mark. w counts the table entries that let the guest write to the block, x those that let it
+ *              execute from it, l the L1 entries that link to it. A block is marked if its mark is exactly PAGEMON_MARKED: create and map then
+ *              take it for signed and do not hash it. They believe this of any ledger that they are lent.
+ *   golden     the golden image: SHA-256 digests of PAGEMON_DIGEST_BYTES, one behind the other in any order, none or up to
+ *              PAGEMON_MAX_DIGESTS. A block's digest is over its number, four bytes with the highest first, and then its 4,096 bytes: one
+ *              digest signs contents in one block only. signature_block_digest of signature.h makes digests, and tools/golden images.
+ *   kinds      PAGEMON_KINDS_BYTES bytes, the eight memory kinds of a region, as the ledger has them: pagemon_kind below.
+ *   registers  PAGEMON_REGISTERS_BYTES bytes, the fault registers: what tells a guest's kernel why an access failed and where. PAGEMON_DFSR and
+ *              the names behind it, below, are their layout. They are the caller's: a set for each guest processor, zeros at the start.
  *
- * No two buffers of a call share a byte, and nothing else writes them during the call. Any alignment will do. A pointer whose length is 0 is
- * not followed, and may be NULL; no other pointer is NULL. Any lengths and any contents are safe to lend: they are refused (PAGEMON_MISFIT)
- * or judged as they stand.
+ * No two buffers of a call share a byte, and the registers share none with memory, ledger or golden, in pagemon_acknowledge too. Nothing else
+ * writes them during the call. Any alignment will do. A pointer whose length is 0 is not followed, and may be NULL; no other pointer is NULL.
+ * Any lengths and any contents are safe to lend: they are refused (PAGEMON_MISFIT) or judged as they stand.
  *
  * The processor. Entries are judged as ARMv7-A short descriptors with SCTLR.AFE, TRE, WXN and EE 0, TTBCR 0 and DACR 1. TLB and caches are
  * the caller's: docs/ASSUMPTIONS.md says which accepted call needs which upkeep before the guest runs on. Calls on one region are made one
  * at a time.
  *
  * Answers. Each call returns 0 (PAGEMON_ACCEPTED), or the lowest of its refusals that apply. After a refused call every buffer is as it was
- * before it, though the ledger may differ while create or free is running. An accepted call changes what its comment names, and no other
- * byte. A buffer that a call cannot change is const.
+ * before it, but for the fault registers after PAGEMON_FAULT_ENTRY and PAGEMON_RIGHT_LACKING; the ledger may differ while create or free is
+ * running. An accepted call changes what its comment names, and no other byte. A buffer that a call cannot change is const.
  *
  * Numbers. A block is named by its physical number, address / 4096. The region is the n blocks from B on; B is a multiple of
  * PAGEMON_SECTION_BLOCKS, and B + n at most 2^20. An L1 table has four blocks from a multiple of 4 on, and 4,096 entries. An L2 block has
@@ -97,6 +99,40 @@ typedef uint16_t pagemon_kind;
  */
 #define PAGEMON_KIND_TO_BYTES(kind) (uint8_t)((kind) & 0xFFu), (uint8_t)((kind) >> 8)
 
+/*
+ * The fault registers: four words of 32 bits, the lowest byte first, and the pending byte. Each name is the place of its first byte. A read or write
+ * that faults stores the status and its address in DFSR and DFAR, a fetch in IFSR and IFAR. The pending byte is 1 after a fault, and 0 after
+ * pagemon_acknowledge.
+ */
+#define PAGEMON_REGISTERS_BYTES 17u /* bytes of all of them */
+#define PAGEMON_DFSR 0u             /* data fault status register */
+#define PAGEMON_DFAR 4u             /* data fault address register */
+#define PAGEMON_IFSR 8u             /* instruction fault status register */
+#define PAGEMON_IFAR 12u            /* instruction fault address register */
+#define PAGEMON_PENDING 16u         /* the pending byte */
+
+/* The word of a register, as in PAGEMON_REGISTER(registers, PAGEMON_DFSR). Both arguments are evaluated four times. */
+#define PAGEMON_REGISTER(registers, place) \
+    ((uint32_t)(registers)[place] | (uint32_t)(registers)[(place) + 1u] << 8 | (uint32_t)(registers)[(place) + 2u] << 16 \
+     | (uint32_t)(registers)[(place) + 3u] << 24)
+
+/* The codes of faults, in ARM's five bits. A section's entry is of level 1, a page's and a large page's of level 2. */
+#define PAGEMON_TRANSLATION_L1 0x05u /* PAGEMON_FAULT_ENTRY at an entry of an L1 table */
+#define PAGEMON_TRANSLATION_L2 0x07u /* PAGEMON_FAULT_ENTRY at an entry of an L2 table */
+#define PAGEMON_PERMISSION_L1 0x0Du  /* PAGEMON_RIGHT_LACKING at an entry of an L1 table */
+#define PAGEMON_PERMISSION_L2 0x0Fu  /* PAGEMON_RIGHT_LACKING at an entry of an L2 table */
+
+/*
+ * What a status says: the code, of which bits 3..0 stand in bits 3..0 of the status and the highest in its bit 10; whether the access was a write,
+ * in bit 11; which sort of fault it was; and its level, 1 or 2, where it is of one of these sorts. All other bits of a status are 0, and where no
+ * fault was told yet, all are. The argument of the first is evaluated twice.
+ */
+#define PAGEMON_STATUS_CODE(status) (((status) & 0xFu) | ((status) >> 6 & 0x10u))
+#define PAGEMON_STATUS_IS_WRITE(status) (((status) >> 11 & 1u) != 0)
+#define PAGEMON_STATUS_IS_TRANSLATION(status) (((status) & 0x40Du) == 0x005u)
+#define PAGEMON_STATUS_IS_PERMISSION(status) (((status) & 0x40Du) == 0x00Du)
+#define PAGEMON_STATUS_LEVEL(status) (((status) >> 1 & 1u) + 1u)
+
 /* Rights of a mapping, added up. Maps take 0, READ, READ + WRITE and READ + EXECUTE. */
 enum {
     PAGEMON_READ = 1,
@@ -115,7 +151,8 @@ enum {
 enum {
     PAGEMON_ACCEPTED = 0,            /* accepted */
     PAGEMON_MISFIT = 1,              /* the length of memory or ledger, B, or a memory kind is not lawful; in create and map also the golden image's
-                                        length, in begin with kinds the number of their bytes */
+                                        length, in begin with kinds the number of their bytes; in read, write, fetch and acknowledge the
+                                        length of the fault registers */
     PAGEMON_OUTSIDE_REGION = 2,      /* the block, or one of an L1 table's four or of those to forget, lies outside the region */
     PAGEMON_MISALIGNED = 3,          /* an L1 table's block is no multiple of 4, a section's target none of 256, or a large page's index or target
                                         none of 16 */
@@ -132,8 +169,8 @@ enum {
     PAGEMON_UNSIGNED = 12,           /* a block would be executable that is not marked and that the golden image does not sign */
     PAGEMON_OVERRUN = 13,            /* a counter would end below 0 or above PAGEMON_MAX_COUNT */
     PAGEMON_NO_ACTIVE_TABLE = 21,    /* guest: the active word is no multiple of 4, or one of four blocks from it on lies outside the region */
-    PAGEMON_FAULT_ENTRY = 22,        /* guest: the walk meets a fault */
-    PAGEMON_RIGHT_LACKING = 23,      /* guest: the walk ends at an entry that does not give the right */
+    PAGEMON_FAULT_ENTRY = 22,        /* guest: the walk meets a fault, and the fault registers tell of it */
+    PAGEMON_RIGHT_LACKING = 23,      /* guest: the walk ends at an entry that does not give the right, and the fault registers tell of it */
     PAGEMON_BROKEN_WALK = 24         /* guest: the walk meets an entry that is not accepted, or that leads outside the region in part */
 };
 
@@ -238,18 +275,28 @@ uint32_t pagemon_switch(const uint8_t *memory, size_t memory_length, uint8_t *le
 
 /*
  * The guest reads, or fetches as an instruction, the byte at a virtual address, through the active table. Refusals: 1, 21, and by the walk
- * 22, 23, 24. Every call sets `*byte`: the byte, or 0 when refused. `byte` points into none of the buffers. No buffer changes.
+ * 22, 23, 24. Every call sets `*byte`: the byte, or 0 when refused. `byte` points into none of the buffers. Writes nothing when accepted.
+ *
+ * With 22 and 23 a read, write or fetch writes the fault registers: DFSR and DFAR, of a fetch IFSR and IFAR, become the fault's status and
+ * `address`, and the pending byte becomes 1, whatever it was. The two other registers stay. With every other answer all of them stay.
  */
-uint32_t pagemon_read(const uint8_t *memory, size_t memory_length, const uint8_t *ledger, size_t ledger_length, uint32_t address,
-                      uint8_t *byte);
-uint32_t pagemon_fetch(const uint8_t *memory, size_t memory_length, const uint8_t *ledger, size_t ledger_length, uint32_t address,
-                       uint8_t *byte);
+uint32_t pagemon_read(const uint8_t *memory, size_t memory_length, const uint8_t *ledger, size_t ledger_length, uint8_t *registers,
+                      size_t registers_length, uint32_t address, uint8_t *byte);
+uint32_t pagemon_fetch(const uint8_t *memory, size_t memory_length, const uint8_t *ledger, size_t ledger_length, uint8_t *registers,
+                       size_t registers_length, uint32_t address, uint8_t *byte);
 
 /*
  * The guest writes the low 8 bits of `byte` at a virtual address, through the active table. Refusals: 1, 21, and by the walk 22, 23, 24.
- * Writes that one byte of memory, and the mark 0 for its block in the ledger.
+ * Writes that one byte of memory, and the mark 0 for its block in the ledger; with 22 and 23 the fault registers, as a read does.
  */
-uint32_t pagemon_write(uint8_t *memory, size_t memory_length, uint8_t *ledger, size_t ledger_length, uint32_t address, uint32_t byte);
+uint32_t pagemon_write(uint8_t *memory, size_t memory_length, uint8_t *ledger, size_t ledger_length, uint8_t *registers, size_t registers_length,
+                       uint32_t address, uint32_t byte);
+
+/*
+ * Takes note of a fault: makes the pending byte 0. Refusal: 1. Every call sets `*pending`: the pending byte as it was, 1 after a fault, or 0 when
+ * refused. `pending` does not point into the registers. DFSR, DFAR, IFSR and IFAR stay.
+ */
+uint32_t pagemon_acknowledge(uint8_t *registers, size_t registers_length, uint8_t *pending);
 
 /*
  * Clears the marks of the `count` blocks from `block` on: create and map hash them again before the guest may execute them. Refusals: 1, 2. A

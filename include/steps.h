@@ -4,8 +4,8 @@
  *
  * A record is PAGEMON_RECORD_BYTES bytes: the two bytes of the mark, a call byte (below), and four argument words, little-endian, in the order of the call's
  * parameters in pagemon.h. Words that the call does not use may hold anything. A record with another mark or another call byte, and a rest shorter than a
- * record, hold no step. pagemon_forget, pagemon_begin_kinds and the three maps with a memory kind have no call byte, so no record is one: a record's begin
- * makes all kinds PAGEMON_KIND_WRITE_BACK, and a record's map uses kind number 0.
+ * record, hold no step. pagemon_forget, pagemon_acknowledge, pagemon_begin_kinds and the three maps with a memory kind have no call byte, so no record is one:
+ * a record's begin makes all kinds PAGEMON_KIND_WRITE_BACK, and a record's map uses kind number 0.
  *
  * libsteps.a has the calls' code in itself, and can be linked beside libmonitor.a.
  */
@@ -45,7 +45,7 @@ enum {
 /*
  * Obeys the records one after the other, up to the first that holds no step, and no more than there is room for in `answers` and in `bytes`, whose lengths
  * count words and bytes. Returns how many it obeyed, refused calls included. Every step is lent this memory, this ledger and, where it takes one, this golden
- * image, as for the calls of pagemon.h.
+ * image, as for the calls of pagemon.h. A read, write or fetch is lent fault registers of the runner's own, all 0, of which nothing is handed out.
  *
  * Writes memory and ledger as the calls do, the answer of each record obeyed to `answers`, and to `bytes` the byte that its read or fetch gave, 0 for every
  * other call. What lies beyond in `answers` and `bytes` stays as it was. How many blocks a create or map hashed is not handed out.

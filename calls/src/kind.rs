@@ -139,9 +139,9 @@ impl Kind {
         self.parameters().len()
     }
 
-    /// Does it give a byte when it is accepted?
+    /// Does it give a byte when it is accepted? That of an acknowledge is the pending byte.
     pub fn gives_byte(self) -> bool {
-        self.outputs().contains(&"byte")
+        self.outputs().iter().any(|output| ["byte", "pending"].contains(output))
     }
 
     /// Does it give the number of blocks that it hashed?
@@ -170,9 +170,10 @@ mod tests {
 
     #[test]
     fn later_calls_have_no_call_byte() {
-        for kind in [Kind::Forget, Kind::BeginKinds, Kind::MapL1Kind, Kind::MapL2Kind, Kind::MapLargeKind] {
-            assert_eq!(kind.byte(), None);
-        }
+        let later =
+            [Kind::Forget, Kind::BeginKinds, Kind::MapL1Kind, Kind::MapL2Kind, Kind::MapLargeKind, Kind::Acknowledge];
+        assert!(later.iter().all(|kind| kind.byte().is_none()));
+        assert_eq!(Kind::ALL[16..], later);
         assert_eq!(Kind::recorded().collect::<Vec<Kind>>(), Kind::ALL[..16]);
     }
 
@@ -184,12 +185,19 @@ mod tests {
         assert!(!Kind::Write.gives_byte());
         assert!(Kind::MapL2.gives_hashed());
         assert!(!Kind::Read.gives_hashed());
-        let lent = |memory, ledger, golden, kinds| PerBuffer { memory, ledger, golden, kinds };
+        let lent = |memory, ledger, golden, kinds, registers| PerBuffer { memory, ledger, golden, kinds, registers };
         let (none, reads, writes) = (Access::NotLent, Access::Reads, Access::Writes);
-        assert_eq!(Kind::Write.access(), lent(writes, writes, none, none));
-        assert_eq!(Kind::Read.access(), lent(reads, reads, none, none));
-        assert_eq!(Kind::BeginKinds.access(), lent(reads, writes, none, reads));
-        assert_eq!(Kind::MapL2Kind.access(), lent(writes, writes, reads, none));
+        assert_eq!(Kind::Write.access(), lent(writes, writes, none, none, writes));
+        assert_eq!(Kind::Read.access(), lent(reads, reads, none, none, writes));
+        assert_eq!(Kind::BeginKinds.access(), lent(reads, writes, none, reads, none));
+        assert_eq!(Kind::MapL2Kind.access(), lent(writes, writes, reads, none, none));
+        assert_eq!(Kind::Acknowledge.access(), lent(none, none, none, none, writes));
+        assert!(Kind::Acknowledge.gives_byte() && Kind::Acknowledge.parameters().is_empty());
+        assert_eq!(
+            Kind::Acknowledge.declaration(),
+            ["uint8_t *registers", "size_t registers_length", "uint8_t *pending"]
+        );
+        assert_eq!(Kind::Acknowledge.refusals(), [1]);
         assert_eq!(Kind::Switch.refusals(), [1, 2, 3, 5]);
         assert_eq!(Kind::Switch.words(5), Some("a block is not of type L1"));
         assert_eq!(Kind::Switch.words(4), None);

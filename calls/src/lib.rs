@@ -11,7 +11,8 @@ pub mod refusals;
 mod table;
 
 pub use buffers::{
-    ledger_bytes, Access, PerBuffer, BLOCK, KINDS_AT, KINDS_BYTES, LEDGER_HEAD, LEDGER_RECORD, MARKED, NO_TABLE,
+    ledger_bytes, Access, PerBuffer, BLOCK, DFAR, DFSR, IFAR, IFSR, KINDS_AT, KINDS_BYTES, LEDGER_HEAD, LEDGER_RECORD,
+    MARKED, NO_TABLE, PENDING, REGISTERS_BYTES,
 };
 pub use call::{Call, NUMBERS};
 pub use kind::Kind;

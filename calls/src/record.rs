@@ -69,6 +69,12 @@ mod tests {
     }
 
     #[test]
+    #[should_panic(expected = "no record can say acknowledge")]
+    fn acknowledge_has_no_record() {
+        Call::new(Kind::Acknowledge, &[]).record();
+    }
+
+    #[test]
     fn wrong_records() {
         let good = Call::new(Kind::Fetch, &[0]).record();
         let with = |at: usize, byte: u8| {

@@ -14,6 +14,9 @@ pub const MISFIT_NEW_KINDS: Refusal = refusal(1, "a length, B or a kind breaks t
 pub const MISFIT: Refusal = refusal(1, "a length, the stored B or a stored kind breaks the rules");
 pub const MISFIT_OR_IMAGE: Refusal =
     refusal(1, "a length, the stored B or a stored kind breaks the rules, or the golden image's length");
+pub const MISFIT_OR_REGISTERS: Refusal =
+    refusal(1, "a length, the stored B or a stored kind breaks the rules, or the length of the fault registers");
+pub const MISFIT_REGISTERS: Refusal = refusal(1, "the length of the fault registers breaks the rules");
 
 pub const TABLE_OUTSIDE: Refusal = refusal(2, "a block of the table is outside the region");
 pub const BLOCK_OUTSIDE: Refusal = refusal(2, "the block is outside the region");

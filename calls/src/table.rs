@@ -33,12 +33,12 @@ macro_rules! table {
                 refuses MISFIT, BLOCK_OUTSIDE, BEYOND_TABLE, NOT_L2, EXECUTABLE_HOLDER, NO_FAULT_OR_PAGE, ASTRAY_ENTRY, OVERRUN;
             Switch = 11: pagemon_switch(const memory, mut ledger; block)
                 refuses MISFIT, TABLE_OUTSIDE, MISALIGNED, NOT_L1;
-            Read = 12: pagemon_read(const memory, const ledger; address; byte: u8)
-                refuses MISFIT, NO_ACTIVE_TABLE, FAULT_ENTRY, RIGHT_LACKING, BROKEN_WALK;
-            Write = 13: pagemon_write(mut memory, mut ledger; address, byte)
-                refuses MISFIT, NO_ACTIVE_TABLE, FAULT_ENTRY, RIGHT_LACKING, BROKEN_WALK;
-            Fetch = 14: pagemon_fetch(const memory, const ledger; address; byte: u8)
-                refuses MISFIT, NO_ACTIVE_TABLE, FAULT_ENTRY, RIGHT_LACKING, BROKEN_WALK;
+            Read = 12: pagemon_read(const memory, const ledger, mut registers; address; byte: u8)
+                refuses MISFIT_OR_REGISTERS, NO_ACTIVE_TABLE, FAULT_ENTRY, RIGHT_LACKING, BROKEN_WALK;
+            Write = 13: pagemon_write(mut memory, mut ledger, mut registers; address, byte)
+                refuses MISFIT_OR_REGISTERS, NO_ACTIVE_TABLE, FAULT_ENTRY, RIGHT_LACKING, BROKEN_WALK;
+            Fetch = 14: pagemon_fetch(const memory, const ledger, mut registers; address; byte: u8)
+                refuses MISFIT_OR_REGISTERS, NO_ACTIVE_TABLE, FAULT_ENTRY, RIGHT_LACKING, BROKEN_WALK;
             MapLarge = 15: pagemon_map_large(mut memory, mut ledger, const golden; block, index, target, rights; hashed: u32)
                 refuses MISFIT_OR_IMAGE, BLOCK_OUTSIDE, MISALIGNED_LARGE, BEYOND_TABLE, NOT_L2, EXECUTABLE_HOLDER, NOT_ALL_FAULTS, UNLAWFUL_RIGHTS,
                     UNFIT_TARGET, CLASH, UNSIGNED, OVERRUN;
@@ -57,6 +57,8 @@ macro_rules! table {
             MapLargeKind = -: pagemon_map_large_kind(mut memory, mut ledger, const golden; block, index, target, rights, kind_number; hashed: u32)
                 refuses MISFIT_OR_IMAGE, BLOCK_OUTSIDE, MISALIGNED_LARGE, BEYOND_KINDS, NOT_L2, EXECUTABLE_HOLDER, NOT_ALL_FAULTS, UNLAWFUL_RIGHTS,
                     UNFIT_TARGET, CLASH, UNSIGNED, OVERRUN;
+            Acknowledge = -: pagemon_acknowledge(mut registers; ; pending: u8)
+                refuses MISFIT_REGISTERS;
         }
     };
 }

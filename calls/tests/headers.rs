@@ -1,5 +1,8 @@
 //! The table of the calls beside the headers in include/: what Rust code links must be declared as C code sees it.
-use calls::{Kind, BLOCK, KINDS_AT, KINDS_BYTES, LEDGER_HEAD, LEDGER_RECORD, MARK, MARKED, NO_TABLE, RECORD_BYTES};
+use calls::{
+    Kind, BLOCK, DFAR, DFSR, IFAR, IFSR, KINDS_AT, KINDS_BYTES, LEDGER_HEAD, LEDGER_RECORD, MARK, MARKED, NO_TABLE,
+    PENDING, RECORD_BYTES, REGISTERS_BYTES,
+};
 use std::fs;
 
 fn header(name: &str) -> String {
@@ -88,4 +91,13 @@ fn sizes() {
     assert_eq!(value(&header, "PAGEMON_LEDGER_RECORD_BYTES"), LEDGER_RECORD as u32);
     assert_eq!(value(&header, "PAGEMON_NO_TABLE"), NO_TABLE);
     assert_eq!(value(&header, "PAGEMON_MARKED"), MARKED);
+}
+
+#[test]
+fn fault_registers() {
+    let header = header("pagemon.h");
+    assert_eq!(value(&header, "PAGEMON_REGISTERS_BYTES"), REGISTERS_BYTES as u32);
+    for (name, at) in [("DFSR", DFSR), ("DFAR", DFAR), ("IFSR", IFSR), ("IFAR", IFAR), ("PENDING", PENDING)] {
+        assert_eq!(value(&header, &format!("PAGEMON_{name}")), at as u32, "{name}");
+    }
 }

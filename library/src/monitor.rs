@@ -18,6 +18,7 @@ impl From<&mut [u8]> for Lent {
 #[derive(Clone, Copy)]
 pub struct Outputs {
     pub byte: *mut u8,
+    pub pending: *mut u8,
     pub hashed: *mut u32,
 }
 
