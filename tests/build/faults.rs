@@ -8,7 +8,7 @@ use std::ops::Range;
 use std::path::Path;
 
 /// The lists, in the order in which their faults are numbered.
-const LISTS: [&str; 12] = [
+const LISTS: [&str; 13] = [
     "groups",
     "region",
     "refusals",
@@ -21,6 +21,7 @@ const LISTS: [&str; 12] = [
     "large",
     "marks",
     "kinds",
+    "registers",
 ];
 
 type Result<T = ()> = std::result::Result<T, String>;

@@ -212,6 +212,8 @@ struct lent {
     size_t golden_length;
     const uint8_t *kinds;
     size_t kinds_length;
+    uint8_t *registers;
+    size_t registers_length;
 };
 
 /* Eight kinds that all differ, for begin. */
@@ -222,13 +224,18 @@ typedef uint32_t obey(const struct lent *lent, const struct step *step, uint8_t 
 #define REGION lent->memory, lent->memory_length, lent->ledger, lent->ledger_length
 #define IMAGE lent->golden, lent->golden_length
 #define KINDS lent->kinds, lent->kinds_length
+#define REGISTERS lent->registers, lent->registers_length
 
 /* Where create and map store the number of blocks hashed, and what stands there before. */
 static uint32_t plain_hashed, *hashed = &plain_hashed;
 static const uint32_t OLD_NUMBER = 0xA7A7A7A7;
 
+/* The fault registers of the script, and what its two faults leave there of zeros: a read at 0x9000, and before it a fetch at 0x5000. */
+static uint8_t plain_registers[PAGEMON_REGISTERS_BYTES], *registers = plain_registers;
+static const uint8_t told_by_script[PAGEMON_REGISTERS_BYTES] = {0x07, 0, 0, 0, 0x00, 0x90, 0, 0, 0x0F, 0, 0, 0, 0x00, 0x50, 0, 0, 1};
+
 /* In the place of a call byte, which these have not. */
-enum { FORGET = 0, BEGIN_KINDS = 0x80, MAP_L1_KIND, MAP_L2_KIND, MAP_LARGE_KIND };
+enum { FORGET = 0, BEGIN_KINDS = 0x80, MAP_L1_KIND, MAP_L2_KIND, MAP_LARGE_KIND, ACKNOWLEDGE };
 
 static uint32_t by_call(const struct lent *lent, const struct step *step, uint8_t *byte)
 {
@@ -240,6 +247,7 @@ static uint32_t by_call(const struct lent *lent, const struct step *step, uint8_
     case MAP_L1_KIND: return pagemon_map_l1_kind(REGION, IMAGE, a[0], a[1], a[2], a[3], a[4], hashed);
     case MAP_L2_KIND: return pagemon_map_l2_kind(REGION, IMAGE, a[0], a[1], a[2], a[3], a[4], hashed);
     case MAP_LARGE_KIND: return pagemon_map_large_kind(REGION, IMAGE, a[0], a[1], a[2], a[3], a[4], hashed);
+    case ACKNOWLEDGE: return pagemon_acknowledge(REGISTERS, byte);
     case PAGEMON_CALL_BEGIN: return pagemon_begin(REGION, a[0]);
     case PAGEMON_CALL_CREATE_L1: return pagemon_create_l1(REGION, IMAGE, a[0], hashed);
     case PAGEMON_CALL_CREATE_L2: return pagemon_create_l2(REGION, IMAGE, a[0], hashed);
@@ -251,11 +259,11 @@ static uint32_t by_call(const struct lent *lent, const struct step *step, uint8_
     case PAGEMON_CALL_UNMAP_L1: return pagemon_unmap_l1(REGION, a[0], a[1]);
     case PAGEMON_CALL_UNMAP_L2: return pagemon_unmap_l2(REGION, a[0], a[1]);
     case PAGEMON_CALL_SWITCH: return pagemon_switch(REGION, a[0]);
-    case PAGEMON_CALL_READ: return pagemon_read(REGION, a[0], byte);
-    case PAGEMON_CALL_WRITE: return pagemon_write(REGION, a[0], a[1]);
+    case PAGEMON_CALL_READ: return pagemon_read(REGION, REGISTERS, a[0], byte);
+    case PAGEMON_CALL_WRITE: return pagemon_write(REGION, REGISTERS, a[0], a[1]);
     case PAGEMON_CALL_MAP_LARGE: return pagemon_map_large(REGION, IMAGE, a[0], a[1], a[2], a[3], hashed);
     case PAGEMON_CALL_UNMAP_LARGE: return pagemon_unmap_large(REGION, a[0], a[1]);
-    default: return pagemon_fetch(REGION, a[0], byte);
+    default: return pagemon_fetch(REGION, REGISTERS, a[0], byte);
     }
 }
 
@@ -270,7 +278,12 @@ static uint32_t by_run(const struct lent *lent, const struct step *step, uint8_t
 
 static bool gives_byte(uint8_t call)
 {
-    return call == PAGEMON_CALL_READ || call == PAGEMON_CALL_FETCH;
+    return call == PAGEMON_CALL_READ || call == PAGEMON_CALL_FETCH || call == ACKNOWLEDGE;
+}
+
+static bool takes_registers(uint8_t call)
+{
+    return gives_byte(call) || call == PAGEMON_CALL_WRITE;
 }
 
 static bool takes_image(uint8_t call)
@@ -288,7 +301,9 @@ static void expect_hashed(const struct step *step, uint32_t answer, const char *
 
 static void script_by_calls(const struct buffers *b)
 {
-    const struct lent lent = {b->at[MEMORY], MEMORY_BYTES, b->at[LEDGER], LEDGER_BYTES, b->at[GOLDEN], GOLDEN_BYTES, NULL, 0};
+    const struct lent lent = {b->at[MEMORY], MEMORY_BYTES, b->at[LEDGER], LEDGER_BYTES, b->at[GOLDEN], GOLDEN_BYTES,
+                              NULL,          0,            registers,     PAGEMON_REGISTERS_BYTES};
+    memset(registers, 0, PAGEMON_REGISTERS_BYTES);
     for (size_t i = 0; i < STEPS; i++) {
         uint32_t answer = by_call(&lent, &script[i], b->at[BYTES] + i);
         expect_hashed(&script[i], answer, "the script");
@@ -297,6 +312,7 @@ static void script_by_calls(const struct buffers *b)
             b->at[BYTES][i] = 0;
         }
     }
+    expect(memcmp(registers, told_by_script, sizeof told_by_script) == 0, "other fault registers", "the script", 0);
 }
 
 static size_t run(const struct buffers *b, size_t records_length, size_t answers_length, size_t bytes_length)
@@ -366,13 +382,20 @@ struct room {
 
 static struct room rooms[BUFFERS];
 
-/* A page for the number of blocks hashed, which stands at its start or at its end. */
-static uint8_t *hashed_room;
+/* A page for the number of blocks hashed, and one for the fault registers: each stands at its start or at its end. */
+static uint8_t *hashed_room, *registers_room;
+
+static uint8_t *page_between(void)
+{
+    uint8_t *page = untouchable(3 * PAGE) + PAGE;
+    allow(page, PAGE, PROT_READ | PROT_WRITE);
+    return page;
+}
 
 static void make_rooms(void)
 {
-    hashed_room = untouchable(3 * PAGE) + PAGE;
-    allow(hashed_room, PAGE, PROT_READ | PROT_WRITE);
+    hashed_room = page_between();
+    registers_room = page_between();
     for (int i = 0; i < BUFFERS; i++) {
         rooms[i].size = (lengths[i] + 8 + PAGE - 1) / PAGE * PAGE;
         rooms[i].start = untouchable(rooms[i].size + 2 * PAGE) + PAGE;
@@ -413,7 +436,9 @@ static void script_in_rooms(const struct buffers *b, void (*script_by)(const str
         memset(rooms[i].start, CANARY, rooms[i].size);
     }
     memset(hashed_room, CANARY, PAGE);
+    memset(registers_room, CANARY, PAGE);
     hashed = (uint32_t *)(void *)(hashed_room + (number % 2 == 0 ? 0 : PAGE - sizeof *hashed));
+    registers = registers_room + (number % 2 == 0 ? number : PAGE - PAGEMON_REGISTERS_BYTES);
     put_all(b);
     trying = where;
     script_by(b);
@@ -425,7 +450,10 @@ static void script_in_rooms(const struct buffers *b, void (*script_by)(const str
     }
     expect_canaries(hashed_room, (uint8_t *)hashed, where, number);
     expect_canaries((uint8_t *)(hashed + 1), hashed_room + PAGE, where, number);
+    expect_canaries(registers_room, registers, where, number);
+    expect_canaries(registers + PAGEMON_REGISTERS_BYTES, registers_room + PAGE, where, number);
     hashed = &plain_hashed;
+    registers = plain_registers;
 }
 
 static void both_ways(const struct buffers *b, const char *where, size_t number)
@@ -556,21 +584,36 @@ static const struct step unrecorded[] = {
 
 static const struct step *const begin_kinds = &unrecorded[1];
 
+/* What is lent as fault registers holds this byte everywhere. */
+enum { OLD_REGISTER = 0x3A };
+
+/* Accesses that fault in what the setup left, and acknowledge. */
+static const struct step faulting[] = {
+    {PAGEMON_CALL_READ, {0x00009000}, PAGEMON_FAULT_ENTRY, 0, 0},
+    {PAGEMON_CALL_WRITE, {0x00000000, 65}, PAGEMON_RIGHT_LACKING, 0, 0},
+    {PAGEMON_CALL_FETCH, {0x00500000}, PAGEMON_FAULT_ENTRY, 0, 0},
+    {ACKNOWLEDGE, {0}, PAGEMON_ACCEPTED, OLD_REGISTER, 0},
+};
+
+static const struct step *const read_fault = &faulting[0], *const acknowledge = &faulting[3];
+
 enum {
     SETUP = sizeof setup / sizeof setup[0],
     CALLS = sizeof each_call / sizeof each_call[0],
-    UNRECORDED = sizeof unrecorded / sizeof unrecorded[0]
+    UNRECORDED = sizeof unrecorded / sizeof unrecorded[0],
+    FAULTING = sizeof faulting / sizeof faulting[0]
 };
 
 /* What the setup leaves, and buffers with the same bytes for one call. */
 static uint8_t left_memory[MEMORY_BYTES], left_ledger[LEDGER_BYTES], golden[GOLDEN_BYTES];
-static uint8_t memory[MEMORY_BYTES], ledger[LEDGER_BYTES], lent_golden[GOLDEN_BYTES];
-static const struct lent right = {memory, MEMORY_BYTES, ledger, LEDGER_BYTES, lent_golden, GOLDEN_BYTES, new_kinds, PAGEMON_KINDS_BYTES};
+static uint8_t memory[MEMORY_BYTES], ledger[LEDGER_BYTES], lent_golden[GOLDEN_BYTES], lent_registers[PAGEMON_REGISTERS_BYTES];
+static const struct lent right = {memory,    MEMORY_BYTES,        ledger,         LEDGER_BYTES,           lent_golden, GOLDEN_BYTES,
+                                  new_kinds, PAGEMON_KINDS_BYTES, lent_registers, PAGEMON_REGISTERS_BYTES};
 
 static void set_up(void)
 {
     uint8_t byte = 0;
-    const struct lent lent = {left_memory, MEMORY_BYTES, left_ledger, LEDGER_BYTES, golden, GOLDEN_BYTES, NULL, 0};
+    const struct lent lent = {left_memory, MEMORY_BYTES, left_ledger, LEDGER_BYTES, golden, GOLDEN_BYTES, NULL, 0, NULL, 0};
     put_memory(left_memory);
     put_golden(golden);
     for (size_t i = 0; i < SETUP; i++) {
@@ -580,6 +623,11 @@ static void set_up(void)
 
 static bool as_left(void)
 {
+    for (size_t i = 0; i < sizeof lent_registers; i++) {
+        if (lent_registers[i] != OLD_REGISTER) {
+            return false;
+        }
+    }
     return memcmp(memory, left_memory, sizeof memory) == 0 && memcmp(ledger, left_ledger, sizeof ledger) == 0
            && memcmp(lent_golden, golden, sizeof golden) == 0;
 }
@@ -591,6 +639,7 @@ static void one_call(obey *obey, const struct lent *lent, const struct step *ste
     memcpy(memory, left_memory, sizeof memory);
     memcpy(ledger, left_ledger, sizeof ledger);
     memcpy(lent_golden, golden, sizeof golden);
+    memset(lent_registers, OLD_REGISTER, sizeof lent_registers);
     trying = where;
     expect(obey(lent, step, &byte) == answer, "another answer of call", where, step->call);
     if (obey == by_call) {
@@ -614,6 +663,19 @@ static void every_call(const struct lent *lent, uint32_t with_image, uint32_t ot
     }
     for (size_t i = 0; i < UNRECORDED; i++) {
         one_call(by_call, lent, &unrecorded[i], takes_image(unrecorded[i].call) ? with_image : others, where);
+    }
+}
+
+/* Every call that is lent fault registers, with these of a wrong length: accesses that would be accepted and that would fault, and acknowledge. */
+static void every_misfit_of_registers(const struct lent *lent, const char *where)
+{
+    for (size_t i = 0; i < CALLS; i++) {
+        if (takes_registers(each_call[i].call)) {
+            one_call(by_call, lent, &each_call[i], PAGEMON_MISFIT, where);
+        }
+    }
+    for (size_t i = 0; i < FAULTING; i++) {
+        one_call(by_call, lent, &faulting[i], PAGEMON_MISFIT, where);
     }
 }
 
@@ -645,6 +707,7 @@ static void long_buffers(void)
     uint8_t *ledger_place = long_ledger();
     struct lent lent;
     every_call(&right, PAGEMON_ACCEPTED, PAGEMON_ACCEPTED, "the right buffers");
+    one_call(by_call, &right, acknowledge, PAGEMON_ACCEPTED, "the right buffers");
     for (size_t i = 0; i < sizeof sizes / sizeof sizes[0]; i++) {
         lent = right, lent.memory = forbidden, lent.memory_length = sizes[i];
         every_call(&lent, PAGEMON_MISFIT, PAGEMON_MISFIT, "a memory of 4 GiB and more");
@@ -659,7 +722,11 @@ static void long_buffers(void)
         every_call(&lent, PAGEMON_MISFIT, PAGEMON_ACCEPTED, "an image of 4 GiB and more");
         lent = right, lent.kinds = forbidden, lent.kinds_length = sizes[i];
         one_call(by_call, &lent, begin_kinds, PAGEMON_MISFIT, "kinds of 4 GiB and more");
+        lent = right, lent.registers = forbidden, lent.registers_length = sizes[i];
+        every_misfit_of_registers(&lent, "fault registers of 4 GiB and more");
     }
+    lent = right, lent.registers = forbidden, lent.registers_length = FOUR_GIB + PAGEMON_REGISTERS_BYTES;
+    every_misfit_of_registers(&lent, "fault registers of 4 GiB and 17 bytes");
     lent = right, lent.kinds = forbidden, lent.kinds_length = FOUR_GIB + PAGEMON_KINDS_BYTES;
     one_call(by_call, &lent, begin_kinds, PAGEMON_MISFIT, "kinds of 4 GiB and 16 bytes");
 }
@@ -689,6 +756,37 @@ static void kinds_in_rooms(void)
         kinds_in_a_room(rooms[GOLDEN].start + offset, "kinds at the offset", offset);
     }
     kinds_in_a_room(end_of_room(GOLDEN, sizeof new_kinds), "kinds that end a page", 0);
+}
+
+/* A read that faults and an acknowledge, at this place of a page: they leave the rest of it as it was, and take no fewer bytes of it. */
+static void registers_in_a_page(uint8_t *start, const char *where, size_t number)
+{
+    static const uint8_t told[] = {0x07, 0, 0, 0, 0x00, 0x90, 0, 0, CANARY, CANARY, CANARY, CANARY, CANARY, CANARY, CANARY, CANARY, 1};
+    struct lent lent = right;
+    uint8_t pending = 0;
+    memset(registers_room, CANARY, PAGE);
+    lent.registers = start;
+    for (size_t length = 0; length < sizeof told; length++) {
+        lent.registers_length = length;
+        every_misfit_of_registers(&lent, where);
+    }
+    expect_canaries(registers_room, registers_room + PAGE, where, number);
+    lent.registers_length = sizeof told;
+    expect(by_call(&lent, read_fault, &pending) == PAGEMON_FAULT_ENTRY, "another answer", where, number);
+    expect(memcmp(start, told, sizeof told) == 0, "other fault registers", where, number);
+    expect(by_call(&lent, acknowledge, &pending) == PAGEMON_ACCEPTED && pending == 1, "another pending byte", where, number);
+    expect(memcmp(start, told, sizeof told - 1) == 0 && start[PAGEMON_PENDING] == 0, "other fault registers after acknowledge", where, number);
+    expect_canaries(registers_room, start, where, number);
+    expect_canaries(start + sizeof told, registers_room + PAGE, where, number);
+}
+
+/* Fault registers that start or end a page, or stand at an odd address. */
+static void registers_in_pages(void)
+{
+    for (size_t offset = 0; offset < 8; offset++) {
+        registers_in_a_page(registers_room + offset, "fault registers at the offset", offset);
+    }
+    registers_in_a_page(registers_room + PAGE - PAGEMON_REGISTERS_BYTES, "fault registers that end a page", 0);
 }
 
 /* Ledgers that end within their head or soon after it, where a page ends. */
@@ -740,10 +838,13 @@ static void empty_buffers(uint8_t *nowhere, const char *where)
     every_call(&lent, PAGEMON_MISFIT, PAGEMON_MISFIT, where);
     lent = right, lent.ledger = nowhere, lent.ledger_length = 0;
     every_call(&lent, PAGEMON_MISFIT, PAGEMON_MISFIT, where);
-    lent = (struct lent){nowhere, 0, nowhere, 0, nowhere, 0, nowhere, 0};
+    lent = (struct lent){nowhere, 0, nowhere, 0, nowhere, 0, nowhere, 0, nowhere, 0};
     every_call(&lent, PAGEMON_MISFIT, PAGEMON_MISFIT, where);
+    every_misfit_of_registers(&lent, where);
     lent = right, lent.kinds = nowhere, lent.kinds_length = 0;
     one_call(by_call, &lent, begin_kinds, PAGEMON_MISFIT, where);
+    lent = right, lent.registers = nowhere, lent.registers_length = 0;
+    every_misfit_of_registers(&lent, where);
 }
 
 /* Lists without records, or without a place for an answer or for a byte. */
@@ -795,6 +896,7 @@ int main(void)
     forbidden = untouchable(forbidden_bytes);
     long_buffers();
     kinds_in_rooms();
+    registers_in_pages();
     short_ledgers();
     long_lists();
     long_image();

@@ -19,6 +19,10 @@ static void expect(bool holds, const char *what)
 
 static uint8_t memory[BLOCKS * PAGEMON_BLOCK_BYTES];
 static uint8_t ledger[PAGEMON_LEDGER_BYTES(BLOCKS)];
+static uint8_t registers[PAGEMON_REGISTERS_BYTES];
+
+#define REGION memory, sizeof memory, ledger, sizeof ledger
+#define REGISTERS registers, sizeof registers
 
 static uint32_t word(const uint8_t *at)
 {
@@ -40,9 +44,9 @@ static uint8_t *mark(uint32_t block)
 static void begin(void)
 {
     memset(ledger, 0x77, sizeof ledger);
-    expect(pagemon_begin(memory, sizeof memory, ledger, sizeof ledger, FIRST + 1) == PAGEMON_MISFIT, "begin with an odd B");
+    expect(pagemon_begin(REGION, FIRST + 1) == PAGEMON_MISFIT, "begin with an odd B");
     expect(word(ledger) == 0x77777777, "a refused begin changed the ledger");
-    expect(pagemon_begin(memory, sizeof memory, ledger, sizeof ledger, FIRST) == PAGEMON_ACCEPTED, "begin");
+    expect(pagemon_begin(REGION, FIRST) == PAGEMON_ACCEPTED, "begin");
     expect(word(ledger) == FIRST && word(ledger + 4) == PAGEMON_NO_TABLE, "B and active");
     for (size_t at = PAGEMON_LEDGER_HEAD_BYTES; at < sizeof ledger; at++) {
         expect(ledger[at] == 0, "a byte of a record");
@@ -52,25 +56,25 @@ static void begin(void)
 static void switches(void)
 {
     for (uint32_t block = 4; block < 8; block++) {
-        expect(pagemon_switch(memory, sizeof memory, ledger, sizeof ledger, FIRST + 4) == PAGEMON_WRONG_TYPE, "switch to data");
+        expect(pagemon_switch(REGION, FIRST + 4) == PAGEMON_WRONG_TYPE, "switch to data");
         put_word(ledger + PAGEMON_LEDGER_HEAD_BYTES + PAGEMON_LEDGER_RECORD_BYTES * block, PAGEMON_TYPE_L1);
     }
-    expect(pagemon_switch(memory, sizeof memory, ledger, sizeof ledger, FIRST + 13) == PAGEMON_OUTSIDE_REGION, "switch outside");
-    expect(pagemon_switch(memory, sizeof memory, ledger, sizeof ledger, FIRST + 5) == PAGEMON_MISALIGNED, "switch to an odd block");
-    expect(pagemon_switch(memory, sizeof memory, ledger, sizeof ledger, FIRST + 4) == PAGEMON_ACCEPTED, "switch");
+    expect(pagemon_switch(REGION, FIRST + 13) == PAGEMON_OUTSIDE_REGION, "switch outside");
+    expect(pagemon_switch(REGION, FIRST + 5) == PAGEMON_MISALIGNED, "switch to an odd block");
+    expect(pagemon_switch(REGION, FIRST + 4) == PAGEMON_ACCEPTED, "switch");
     expect(word(ledger + 4) == FIRST + 4, "active");
 }
 
 static uint32_t read_byte(uint32_t address, uint8_t *byte)
 {
     *byte = 0xA7;
-    return pagemon_read(memory, sizeof memory, ledger, sizeof ledger, address, byte);
+    return pagemon_read(REGION, REGISTERS, address, byte);
 }
 
 static uint32_t fetch_byte(uint32_t address, uint8_t *byte)
 {
     *byte = 0xA7;
-    return pagemon_fetch(memory, sizeof memory, ledger, sizeof ledger, address, byte);
+    return pagemon_fetch(REGION, REGISTERS, address, byte);
 }
 
 /* L1 index 0x123 leads to table 2 of block 8, whose entry 0x45 is a page to write and 0x46 a page to execute. */
@@ -86,14 +90,14 @@ static void accesses(void)
     for (uint32_t block = 9; block <= 11; block++) {
         put_word(mark(block), PAGEMON_MARKED);
     }
-    expect(pagemon_write(memory, sizeof memory, ledger, sizeof ledger, 0x12345678, 0x1C3) == PAGEMON_ACCEPTED, "write");
+    expect(pagemon_write(REGION, REGISTERS, 0x12345678, 0x1C3) == PAGEMON_ACCEPTED, "write");
     expect(word(mark(9)) == PAGEMON_MARKED && word(mark(10)) == 0 && word(mark(11)) == PAGEMON_MARKED, "the mark of the block written");
     expect(memory[10 * PAGEMON_BLOCK_BYTES + 0x678] == 0xC3, "the byte written");
     expect(read_byte(0x12345678, &byte) == PAGEMON_ACCEPTED && byte == 0xC3, "read");
     expect(fetch_byte(0x12345678, &byte) == PAGEMON_RIGHT_LACKING && byte == 0, "fetch without the right");
     memory[11 * PAGEMON_BLOCK_BYTES] = 0x99;
     expect(fetch_byte(0x12346000, &byte) == PAGEMON_ACCEPTED && byte == 0x99, "fetch");
-    expect(pagemon_write(memory, sizeof memory, ledger, sizeof ledger, 0x12346000, 1) == PAGEMON_RIGHT_LACKING, "write without the right");
+    expect(pagemon_write(REGION, REGISTERS, 0x12346000, 1) == PAGEMON_RIGHT_LACKING, "write without the right");
     expect(memory[11 * PAGEMON_BLOCK_BYTES] == 0x99, "a refused write stored");
     expect(word(mark(11)) == PAGEMON_MARKED, "a refused write cleared a mark");
     expect(read_byte(0x12347000, &byte) == PAGEMON_BROKEN_WALK && byte == 0, "read outside the region");

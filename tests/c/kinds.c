@@ -19,8 +19,10 @@ static void expect(bool holds, const char *what)
 }
 
 static uint8_t memory[BLOCKS * PAGEMON_BLOCK_BYTES], ledger[PAGEMON_LEDGER_BYTES(BLOCKS)], kinds[PAGEMON_KINDS_BYTES + 1];
+static uint8_t registers[PAGEMON_REGISTERS_BYTES];
 
 #define REGION memory, sizeof memory, ledger, sizeof ledger
+#define REGISTERS registers, sizeof registers
 #define NO_IMAGE NULL, 0
 
 /* In an initializer, as a hypervisor has them. */
@@ -122,10 +124,10 @@ static void maps(void)
     expect(stands(TABLE, 1, 0x16, 0x58, 0x12, 0x00), "the word of a section");
     expect(pagemon_map_l2(REGION, NO_IMAGE, PAGES, 8, FRAME, READS, &hashed) == PAGEMON_ACCEPTED, "a page without a kind");
     expect(stands(PAGES, 8, 0x2F, 0x80, 0x20, 0x00), "the word of a page without a kind");
-    expect(pagemon_write(REGION, 0x5123, 65) == PAGEMON_ACCEPTED, "write");
-    expect(pagemon_read(REGION, 0x6123, &byte) == PAGEMON_ACCEPTED && byte == 65, "read");
-    expect(pagemon_write(REGION, 0x6123, 66) == PAGEMON_RIGHT_LACKING, "write where only read is given");
-    expect(pagemon_fetch(REGION, 0x5123, &byte) == PAGEMON_RIGHT_LACKING, "fetch where only read and write are given");
+    expect(pagemon_write(REGION, REGISTERS, 0x5123, 65) == PAGEMON_ACCEPTED, "write");
+    expect(pagemon_read(REGION, REGISTERS, 0x6123, &byte) == PAGEMON_ACCEPTED && byte == 65, "read");
+    expect(pagemon_write(REGION, REGISTERS, 0x6123, 66) == PAGEMON_RIGHT_LACKING, "write where only read is given");
+    expect(pagemon_fetch(REGION, REGISTERS, 0x5123, &byte) == PAGEMON_RIGHT_LACKING, "fetch where only read and write are given");
     expect(memcmp(ledger + PAGEMON_KINDS_AT, bytes, sizeof bytes) == 0, "a call that changed the kinds");
 }
 

@@ -20,8 +20,10 @@ static void expect(bool holds, const char *what)
 }
 
 static uint8_t memory[BLOCKS * PAGEMON_BLOCK_BYTES], ledger[PAGEMON_LEDGER_BYTES(BLOCKS)], golden[PAGEMON_DIGEST_BYTES];
+static uint8_t registers[PAGEMON_REGISTERS_BYTES];
 
 #define REGION memory, sizeof memory, ledger, sizeof ledger
+#define REGISTERS registers, sizeof registers
 #define IMAGE golden, sizeof golden
 
 static uint8_t *block(uint32_t number)
@@ -101,7 +103,7 @@ static void hashed_again(void)
     expect_given(map(5, CODE, EXECUTES), PAGEMON_ACCEPTED, 1, "map to execute");
     expect(pagemon_unmap_l2(REGION, PAGES, 5) == PAGEMON_ACCEPTED, "unmap");
     expect_given(map(5, CODE, WRITES), PAGEMON_ACCEPTED, 0, "map to write");
-    expect(pagemon_write(REGION, 0x5FFF, 0x1E) == PAGEMON_ACCEPTED && mark(CODE) == 0, "write");
+    expect(pagemon_write(REGION, REGISTERS, 0x5FFF, 0x1E) == PAGEMON_ACCEPTED && mark(CODE) == 0, "write");
     expect(pagemon_unmap_l2(REGION, PAGES, 5) == PAGEMON_ACCEPTED, "unmap");
     expect_given(map(5, CODE, EXECUTES), PAGEMON_ACCEPTED, 1, "map to execute after a write");
     expect(pagemon_forget(REGION, CODE - 1, 1) == PAGEMON_ACCEPTED && mark(CODE) == PAGEMON_MARKED, "forget of the block before");

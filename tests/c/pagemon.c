@@ -36,22 +36,27 @@ static void expect_unhashed(uint32_t answer, uint32_t expected, const char *what
     hashed = 0xA7A7A7A7;
 }
 
-/* Memory and ledger between canaries, and no golden image. */
+/* Memory, ledger and fault registers between canaries, and no golden image. */
 static uint8_t memory_place[GUARD + BLOCKS * PAGEMON_BLOCK_BYTES + GUARD];
 static uint8_t ledger_place[GUARD + PAGEMON_LEDGER_BYTES(BLOCKS) + GUARD];
+static uint8_t registers_place[GUARD + PAGEMON_REGISTERS_BYTES + GUARD];
 static uint8_t *const memory = memory_place + GUARD;
 static uint8_t *const ledger = ledger_place + GUARD;
+static uint8_t *const registers = registers_place + GUARD;
 static const uint8_t golden[1];
 
 static const size_t memory_length = BLOCKS * PAGEMON_BLOCK_BYTES;
 static const size_t ledger_length = PAGEMON_LEDGER_BYTES(BLOCKS);
+static const size_t registers_length = PAGEMON_REGISTERS_BYTES;
 
 static void zeros(void)
 {
     memset(memory_place, CANARY, sizeof memory_place);
     memset(ledger_place, CANARY, sizeof ledger_place);
+    memset(registers_place, CANARY, sizeof registers_place);
     memset(memory, 0, memory_length);
     memset(ledger, 0, ledger_length);
+    memset(registers, 0, registers_length);
 }
 
 static bool canaries(const uint8_t *place, size_t length)
@@ -80,18 +85,19 @@ static void sample(void)
     expect_answer(pagemon_link(memory, memory_length, ledger, ledger_length, 0, 0, 4, 0), PAGEMON_ACCEPTED, "link");
     expect_unhashed(pagemon_map_l2(memory, memory_length, ledger, ledger_length, golden, 0, 4, 5, 8, PAGEMON_READ | PAGEMON_WRITE, &hashed),
                     PAGEMON_ACCEPTED, "map L2");
-    expect_answer(pagemon_write(memory, memory_length, ledger, ledger_length, 0x5000, 65), PAGEMON_ACCEPTED, "write");
-    expect_answer(pagemon_read(memory, memory_length, ledger, ledger_length, 0x5000, &byte), PAGEMON_ACCEPTED, "read");
+    expect_answer(pagemon_write(memory, memory_length, ledger, ledger_length, registers, registers_length, 0x5000, 65), PAGEMON_ACCEPTED, "write");
+    expect_answer(pagemon_read(memory, memory_length, ledger, ledger_length, registers, registers_length, 0x5000, &byte), PAGEMON_ACCEPTED, "read");
     expect(byte == 65, "the byte read is not 65");
     byte = 0xA7;
-    expect_answer(pagemon_fetch(memory, memory_length, ledger, ledger_length, 0x5000, &byte), PAGEMON_RIGHT_LACKING, "fetch");
+    expect_answer(pagemon_fetch(memory, memory_length, ledger, ledger_length, registers, registers_length, 0x5000, &byte), PAGEMON_RIGHT_LACKING,
+                  "fetch");
     expect(byte == 0, "a refused fetch gave another byte than 0");
     expect_unhashed(pagemon_map_l2(memory, memory_length, ledger, ledger_length, golden, 0, 4, 6, 8, PAGEMON_READ | PAGEMON_EXECUTE, &hashed),
                     PAGEMON_CLASH, "map L2 to execute");
     expect_answer(pagemon_free_l2(memory, memory_length, ledger, ledger_length, 4), PAGEMON_IN_USE, "free L2");
 }
 
-/* What the sample leaves: two words of tables, the byte written, types and counters. */
+/* What the sample leaves: two words of tables, the byte written, types and counters, and what the fetch told. */
 static void left_by_sample(void)
 {
     const uint8_t *records = ledger + PAGEMON_LEDGER_HEAD_BYTES;
@@ -108,8 +114,12 @@ static void left_by_sample(void)
         expect(word(record + 12) == (block == 4), "an l");
         expect(word(record + 16) == 0, "a mark");
     }
+    expect(word(registers + PAGEMON_DFSR) == 0 && word(registers + PAGEMON_DFAR) == 0, "DFSR and DFAR");
+    expect(word(registers + PAGEMON_IFSR) == 0x00F && word(registers + PAGEMON_IFAR) == 0x5000, "IFSR and IFAR");
+    expect(registers[PAGEMON_PENDING] == 1, "the pending byte");
     expect(canaries(memory_place, memory_length), "a byte outside of memory was changed");
     expect(canaries(ledger_place, ledger_length), "a byte outside of the ledger was changed");
+    expect(canaries(registers_place, registers_length), "a byte outside of the fault registers was changed");
 }
 
 /* A large page over all blocks, which can be read at the indices 16 to 31, and its calls. */
@@ -126,7 +136,8 @@ static void a_large_page(void)
     for (size_t i = 0; i < PAGEMON_LARGE_BLOCKS; i++) {
         expect(word(run + 4 * i) == 0x0000802D, "a large page's word");
     }
-    expect_answer(pagemon_read(memory, memory_length, ledger, ledger_length, 0x18000, &byte), PAGEMON_ACCEPTED, "read by a large page");
+    expect_answer(pagemon_read(memory, memory_length, ledger, ledger_length, registers, registers_length, 0x18000, &byte), PAGEMON_ACCEPTED,
+                  "read by a large page");
     expect(byte == 65, "the byte read by a large page is not 65");
     expect_answer(pagemon_unmap_l2(memory, memory_length, ledger, ledger_length, 4, 24), PAGEMON_WRONG_ENTRY, "unmap L2 of a large page");
     expect_answer(pagemon_unmap_large(memory, memory_length, ledger, ledger_length, 4, 24), PAGEMON_MISALIGNED, "unmap large at index 24");
@@ -139,6 +150,9 @@ static void a_large_page(void)
 /* The calls that the sample leaves out. */
 static void the_other_calls(void)
 {
+    uint8_t pending = 0xA7;
+    expect_answer(pagemon_acknowledge(registers, registers_length, &pending), PAGEMON_ACCEPTED, "acknowledge");
+    expect(pending == 1 && registers[PAGEMON_PENDING] == 0, "the pending byte given and left");
     expect_unhashed(pagemon_map_l1(memory, memory_length, ledger, ledger_length, golden, 0, 0, 1, 0, PAGEMON_READ, &hashed), PAGEMON_UNFIT_TARGET,
                     "map L1");
     expect_answer(pagemon_unmap_l2(memory, memory_length, ledger, ledger_length, 4, 5), PAGEMON_ACCEPTED, "unmap L2");
@@ -164,9 +178,14 @@ static void bad_buffers(void)
                     "a golden image of one byte");
     expect_unhashed(pagemon_map_large(memory, memory_length, ledger, ledger_length, golden, 1, 4, 16, 0, PAGEMON_READ, &hashed), PAGEMON_MISFIT,
                     "a golden image of one byte for a large page");
-    expect_answer(pagemon_read(memory, 0, ledger, 0, 0, &byte), PAGEMON_MISFIT, "no memory");
+    expect_answer(pagemon_read(memory, 0, ledger, 0, registers, registers_length, 0, &byte), PAGEMON_MISFIT, "no memory");
     expect(byte == 0, "a refused read gave another byte than 0");
     expect_answer(pagemon_forget(memory, memory_length, ledger, ledger_length - 1, 0, 1), PAGEMON_MISFIT, "forget with a short ledger");
+    expect_answer(pagemon_write(memory, memory_length, ledger, ledger_length, registers, registers_length - 1, 0, 0), PAGEMON_MISFIT,
+                  "write with short fault registers");
+    byte = 0xA7;
+    expect_answer(pagemon_acknowledge(registers, registers_length - 1, &byte), PAGEMON_MISFIT, "acknowledge of short fault registers");
+    expect(byte == 0, "a refused acknowledge gave another byte than 0");
 }
 
 int main(void)

@@ -82,7 +82,7 @@ static size_t run(size_t records_length, size_t answers_length, size_t bytes_len
 /* What the first steps of the sample leave, by the monitor's own calls. */
 static void obey_sample(size_t steps)
 {
-    uint8_t *m = expected_memory, *l = expected_ledger;
+    uint8_t *m = expected_memory, *l = expected_ledger, r[PAGEMON_REGISTERS_BYTES] = {0};
     uint32_t hashed = 0;
     size_t n = sizeof expected_memory, k = sizeof expected_ledger;
     memset(m, 0, n);
@@ -96,7 +96,7 @@ static void obey_sample(size_t steps)
         case PAGEMON_CALL_SWITCH: pagemon_switch(m, n, l, k, a[0]); break;
         case PAGEMON_CALL_LINK: pagemon_link(m, n, l, k, a[0], a[1], a[2], a[3]); break;
         case PAGEMON_CALL_MAP_L2: pagemon_map_l2(m, n, l, k, golden, 0, a[0], a[1], a[2], a[3], &hashed); break;
-        case PAGEMON_CALL_WRITE: pagemon_write(m, n, l, k, a[0], a[1]); break;
+        case PAGEMON_CALL_WRITE: pagemon_write(m, n, l, k, r, sizeof r, a[0], a[1]); break;
         default: break;
         }
     }

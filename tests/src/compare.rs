@@ -1,4 +1,4 @@
-//! Candidate and reference side by side: the answer, the byte and the number given, and every byte of memory and ledger.
+//! Candidate and reference side by side: the answer, the byte and the number given, and every byte of memory, ledger and fault registers.
 use crate::cases::Case;
 use crate::faults::{Fault, Seeded};
 use crate::monitor::{naming_memory_kind, Call, Given, Kind, Monitor, Store, BLOCK};
@@ -144,7 +144,9 @@ fn compared(given: Given, expected: Given, store: &Store, other: &Store) -> Opti
     }
     let shared = Rc::ptr_eq(&store.memory, &other.memory);
     let memory = if shared { None } else { differing("memory", BLOCK, &store.memory, &other.memory) };
-    memory.or_else(|| differing("ledger", store.ledger.len(), &store.ledger, &other.ledger))
+    memory
+        .or_else(|| differing("ledger", store.ledger.len(), &store.ledger, &other.ledger))
+        .or_else(|| differing("registers", 4, &store.registers, &other.registers))
 }
 
 fn differing(what: &str, unit: usize, given: &[u8], expected: &[u8]) -> Option<String> {

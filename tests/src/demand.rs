@@ -1,9 +1,10 @@
-//! Lists 7 to 12, 14 and 15, held against every step of a list by what is told alone (lists 4 to 6). The ledger is looked at only to compare its w, x
-//! and l and its kinds, and for its marks. Nothing is shared with the reference but SHA-256.
+//! Lists 7 to 12 and 14 to 16, held against every step of a list by what is told alone (lists 4 to 6). The ledger is looked at only to compare its w, x
+//! and l and its kinds, for its marks, and to see that an acknowledge leaves it. Nothing is shared with the reference but SHA-256.
 use crate::hasher::block_digest;
 use crate::monitor::{Call, Given, Kind, Store, BLOCK, KINDS_AT, LEDGER_HEAD, LEDGER_RECORD};
 use std::collections::BTreeSet;
 use std::fmt;
+use std::rc::Rc;
 
 /// What an entry gives: its blocks, and write, execute or a link.
 struct Gives {
@@ -60,6 +61,14 @@ fn answer_allowed(given: Given) -> Result<(), String> {
     }
 }
 
+fn unaltered(before: &Before, after: &Store) -> Result<(), String> {
+    match (before.memory == after.memory, before.ledger == after.ledger) {
+        (true, true) => Ok(()),
+        (false, _) => Err("an acknowledge altered the memory".to_string()),
+        _ => Err("an acknowledge altered the ledger".to_string()),
+    }
+}
+
 fn word(bytes: &[u8], index: usize) -> u32 {
     (0..4).map(|k| u32::from(bytes[4 * index + k]) << (8 * k)).sum()
 }
@@ -67,6 +76,18 @@ fn word(bytes: &[u8], index: usize) -> u32 {
 /// The five words of a block's record.
 fn record(ledger: &[u8], position: usize) -> &[u8] {
     &ledger[LEDGER_HEAD..][LEDGER_RECORD * position..][..LEDGER_RECORD]
+}
+
+/// Memory and ledger as a step was lent them.
+pub struct Before {
+    memory: Rc<Vec<u8>>,
+    ledger: Vec<u8>,
+}
+
+impl From<&Store> for Before {
+    fn from(store: &Store) -> Before {
+        Before { memory: store.memory.clone(), ledger: store.ledger.clone() }
+    }
 }
 
 /// A clause of lists that a step breaks, and how.
@@ -146,11 +167,14 @@ impl Told {
         indices.filter_map(gives).filter(|gives| gives.write).map(|gives| (gives.first, gives.count)).collect()
     }
 
-    /// Holds a step against lists 7 to 12, 14 and 15. `before` is the memory that the step was lent.
-    pub fn step(&mut self, call: Call, given: Given, before: &[u8], store: &Store) -> Vec<Breach> {
+    /// Holds a step against lists 7 to 12 and 14 to 16.
+    pub fn step(&mut self, call: Call, given: Given, before: &Before, store: &Store) -> Vec<Breach> {
         let mut held = vec![(12, answer_allowed(given))];
         if matches!(call.kind, Kind::Read | Kind::Write | Kind::Fetch) {
-            held.push((10, self.tables_unaltered(before, &store.memory)));
+            held.push((10, self.tables_unaltered(&before.memory, &store.memory)));
+        }
+        if call.kind == Kind::Acknowledge {
+            held.push((16, unaltered(before, store)));
         }
         if call.kind == Kind::Fetch && given.answer == 0 {
             held.push((11, self.fetched(call.arguments[0] as usize, given.byte, store)));

@@ -1,9 +1,9 @@
 //! Lists on the box (RULES: box): the guest's processor writes by itself, and the hypervisor forgets the blocks that it lets the guest write.
 use crate::compare::{self, difference, Comparer};
-use crate::demand::{Breach, Told};
+use crate::demand::{Before, Breach, Told};
 use crate::lists::{lists, Lister};
-use crate::monitor::{Call, Given, Kind, Monitor, Store};
-use crate::outcome::{Outcome, Outcomes};
+use crate::monitor::{Call, Given, Kind, Monitor, Store, REGISTERS_BYTES};
+use crate::outcome::{Lent, Outcome, Outcomes};
 use crate::reference::Reference;
 use std::collections::{BTreeSet, VecDeque};
 use std::convert::Infallible;
@@ -32,14 +32,15 @@ impl Duty {
     }
 }
 
-/// A write as the guest's processor makes it: memory is what the call would leave, and the ledger stays as it was (box 1).
+/// A write as the guest's processor makes it: memory is what the call would leave, ledger and fault registers stay as they were (box 1). The call would
+/// be lent as many registers as it asks for.
 fn processor_writes(call: Call, store: &mut Store) -> Given {
-    let written = Reference::new().outcome(call, (&*store).into());
-    Outcome { ledger: Vec::new(), ..written }.apply(store)
+    let written = Reference::new().outcome(call, Lent { registers: &[0; REGISTERS_BYTES], ..(&*store).into() });
+    Outcome { ledger: Vec::new(), registers: Vec::new(), ..written }.apply(store)
 }
 
-/// Takes a step on the box, and the forgets that are due then. A write is the processor's, and `perform` makes all other calls. Gives what lists 7 to 12,
-/// 14 and 15 say against these steps.
+/// Takes a step on the box, and the forgets that are due then. A write is the processor's, and `perform` makes all other calls. Gives what lists 7 to 12
+/// and 14 to 16 say against these steps.
 pub fn take<E>(
     duty: Duty,
     call: Call,
@@ -49,7 +50,7 @@ pub fn take<E>(
 ) -> Result<(Given, Vec<Breach>), E> {
     let (mut all, mut breaches, mut due) = (Vec::new(), Vec::new(), VecDeque::from([call]));
     while let Some(step) = due.pop_front() {
-        let before = store.memory.clone();
+        let before = Before::from(&*store);
         let given = match step.kind {
             Kind::Write => processor_writes(step, store),
             _ => perform(step, store)?,
@@ -63,7 +64,7 @@ pub fn take<E>(
     Ok((all[0], breaches))
 }
 
-/// Compares every call of the lists on a box where the duty is done, and holds lists 7 to 12, 14 and 15 against every step.
+/// Compares every call of the lists on a box where the duty is done, and holds lists 7 to 12 and 14 to 16 against every step.
 pub fn run(comparer: &mut Comparer) -> compare::Outcome {
     for (seed, blocks, steps) in lists() {
         let duty = [Duty::Blocks, Duty::Region][seed as usize % 2];
@@ -81,7 +82,7 @@ pub fn run(comparer: &mut Comparer) -> compare::Outcome {
     Ok(())
 }
 
-/// For each list on the box, the clauses of lists 7 to 12, 14 and 15 that the monitor breaks.
+/// For each list on the box, the clauses of lists 7 to 12 and 14 to 16 that the monitor breaks.
 pub fn broken_by(monitor: &dyn Monitor, duty: Duty) -> impl Iterator<Item = BTreeSet<u32>> + '_ {
     lists().map(move |(seed, blocks, steps)| {
         let mut lister = Lister::new(seed, blocks);

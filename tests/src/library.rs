@@ -34,15 +34,21 @@ impl Library {
     /// Makes a call on copies of what it is lent, with outputs that hold `old`.
     fn once(&self, call: Call, store: &mut Store, old: u8) -> Given {
         let access = call.kind.access();
-        let contents =
-            PerBuffer { memory: &store.memory[..], ledger: &store.ledger, golden: &store.golden, kinds: &store.kinds };
+        let contents = PerBuffer {
+            memory: &store.memory[..],
+            ledger: &store.ledger,
+            golden: &store.golden,
+            kinds: &store.kinds,
+            registers: &store.registers,
+        };
         let mut copies = access.zip(contents).map(|(access, content)| match access {
             Access::NotLent => self.guard(&[]),
             Access::Reads | Access::Writes => self.guard(content),
         });
         let mut byte = self.guard(&[old]);
         let mut hashed = Guarded::new(&[u32::from_ne_bytes([old; 4])], 0);
-        let outputs = Outputs { byte: byte.pointer_mut(), hashed: hashed.pointer_mut() };
+        let place = byte.pointer_mut();
+        let outputs = Outputs { byte: place, pending: place, hashed: hashed.pointer_mut() };
         let lent = copies.as_mut().map(|copy| Lent::from(copy.content_mut()));
         // SAFETY: every pointer is to a copy of its own.
         let answer = unsafe { invoke(call, lent, outputs) };
@@ -57,6 +63,9 @@ impl Library {
         }
         if let Some(left) = left(access.kinds, &copies.kinds, &store.kinds) {
             store.kinds.copy_from_slice(left);
+        }
+        if let Some(left) = left(access.registers, &copies.registers, &store.registers) {
+            store.registers.copy_from_slice(left);
         }
         let (byte, hashed) = (byte.guarded_content()[0], hashed.guarded_content()[0]);
         Given {

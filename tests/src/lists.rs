@@ -1,11 +1,12 @@
-//! Lists of steps, drawn with an eye on what the steps before them left, with lists 7 to 12, 14 and 15 held against every step.
+//! Lists of steps, drawn with an eye on what the steps before them left, with lists 7 to 12 and 14 to 16 held against every step.
 use crate::bytes::word;
 use crate::cases::scene::*;
 use crate::compare::{difference, Comparer, Outcome};
-use crate::demand::Told;
+use crate::demand::{Before, Told};
 use crate::hasher::block_digest;
 use crate::monitor::{
     naming_memory_kind, plain_call, Call, Given, Kind, Monitor, BLOCK, KINDS_AT, KINDS_BYTES, MARKED, NUMBERS,
+    REGISTERS_BYTES,
 };
 use crate::random::Random;
 use calls::RECORD_WORDS;
@@ -19,8 +20,12 @@ pub type List = (u64, usize, usize);
 /// From this seed on, begins and maps of a list name kinds in half of the cases.
 const FIRST_WITH_KINDS: u64 = 300;
 
+/// From this seed on, accesses are lent any fault registers, and acknowledges come after them. In the lists before it the fault registers are 17 bytes,
+/// each access is lent what the one before it left, and nothing is acknowledged.
+const FIRST_WITH_REGISTERS: u64 = 600;
+
 pub fn lists() -> impl Iterator<Item = List> {
-    lists_without_kinds().chain(lists_with_kinds())
+    lists_without_kinds().chain(lists_with_kinds()).chain(lists_with_registers())
 }
 
 /// Many short ones in small regions, some in regions with room for large pages, a few with room for sections.
@@ -33,6 +38,11 @@ pub fn lists_with_kinds() -> impl Iterator<Item = List> {
     some_lists(FIRST_WITH_KINDS..350, 400..430, 500..512)
 }
 
+/// Still fewer, in which begins and maps name kinds too.
+pub fn lists_with_registers() -> impl Iterator<Item = List> {
+    some_lists(FIRST_WITH_REGISTERS..620, 700..710, 800..804)
+}
+
 fn some_lists(small: Range<u64>, larger: Range<u64>, largest: Range<u64>) -> impl Iterator<Item = List> {
     let small = small.map(|seed| (seed, 8 + Random::new(seed).below(20), 400));
     let larger = larger.map(|seed| (seed, [48, 64, 67, 80][seed as usize % 4], 400));
@@ -42,13 +52,13 @@ fn some_lists(small: Range<u64>, larger: Range<u64>, largest: Range<u64>) -> imp
 /// The pages of an L2 table that accesses go to: some at its start, and some of the three runs there.
 const PAGES: [u32; 13] = [0, 1, 2, 3, 4, 5, 16, 17, 24, 31, 32, 40, 47];
 
-/// Compares every step, and holds lists 7 to 12, 14 and 15 against it.
+/// Compares every step, and holds lists 7 to 12 and 14 to 16 against it.
 pub fn run(comparer: &mut Comparer) -> Outcome {
     for (seed, blocks, steps) in lists() {
         let mut lister = Lister::new(seed, blocks);
         for step in 0..=steps {
             let call = lister.next();
-            let before = lister.scene.store.memory.clone();
+            let before = Before::from(&lister.scene.store);
             let name = format!("list {seed} of {blocks} blocks, step {step}");
             let given = comparer.step(&name, call, &mut lister.scene.store)?;
             if let Some(breach) = lister.told.step(call, given, &before, &lister.scene.store).first() {
@@ -59,7 +69,7 @@ pub fn run(comparer: &mut Comparer) -> Outcome {
     Ok(())
 }
 
-/// For each of these lists, the clauses of lists 7 to 12, 14 and 15 that the monitor breaks. It is compared with nothing.
+/// For each of these lists, the clauses of lists 7 to 12 and 14 to 16 that the monitor breaks. It is compared with nothing.
 pub fn broken_by<'a>(
     monitor: &'a dyn Monitor,
     lists: impl Iterator<Item = List> + 'a,
@@ -69,7 +79,7 @@ pub fn broken_by<'a>(
         let mut broken = BTreeSet::new();
         for _ in 0..=steps {
             let call = lister.next();
-            let before = lister.scene.store.memory.clone();
+            let before = Before::from(&lister.scene.store);
             let given = monitor.perform(call, &mut lister.scene.store);
             let breaches = lister.told.step(call, given, &before, &lister.scene.store);
             broken.extend(breaches.iter().map(|breach| breach.clause));
@@ -85,6 +95,8 @@ pub struct Lister {
     random: Random,
     /// What memory kinds are drawn from, if begins and maps are to name any.
     memory_kinds: Option<Random>,
+    /// What fault registers are drawn from, if accesses are to be lent others than those that are left.
+    registers: Option<Random>,
     /// Steps that are already decided.
     plan: VecDeque<Call>,
 }
@@ -99,9 +111,10 @@ impl Lister {
         let mut scene = Scene::new(first, blocks);
         scene.store.ledger = random.bytes(scene.store.ledger.len() - KINDS_BYTES);
         // Drawn apart, so that the older lists stay the same.
-        let mut memory_kinds = Random::new(2000 + seed);
+        let (mut memory_kinds, mut registers) = (Random::new(2000 + seed), Random::new(3000 + seed));
         scene.store.ledger.splice(KINDS_AT..KINDS_AT, memory_kinds.bytes(KINDS_BYTES));
         scene.store.kinds = kind_bytes(&random_kinds(&mut memory_kinds));
+        scene.store.registers = registers.bytes(REGISTERS_BYTES);
         scene.set_marks(random.below(blocks)..blocks, MARKED);
         for group in (0..blocks.min(40)).step_by(4) {
             put_group(&mut scene, group, &mut random);
@@ -121,13 +134,15 @@ impl Lister {
             scene.store.golden.push(1);
         }
         let memory_kinds = (seed >= FIRST_WITH_KINDS).then_some(memory_kinds);
-        Lister { memory_kinds, ..Lister::over(scene, random) }
+        let registers = (seed >= FIRST_WITH_REGISTERS).then_some(registers);
+        Lister { memory_kinds, registers, ..Lister::over(scene, random) }
     }
 
-    /// Over a store that begin accepts, without kinds.
+    /// Over a store that begin accepts, without kinds, and with the fault registers that it has.
     pub fn over(scene: Scene, random: Random) -> Lister {
         let plan = VecDeque::from([Call::new(Begin, &[scene.first])]);
-        Lister { told: Told::new(scene.first, scene.blocks()), scene, random, memory_kinds: None, plan }
+        let told = Told::new(scene.first, scene.blocks());
+        Lister { told, scene, random, memory_kinds: None, registers: None, plan }
     }
 
     /// The next steps of the list that records can say, as a monitor obeys them.
@@ -154,7 +169,21 @@ impl Lister {
     #[allow(clippy::should_implement_trait)]
     pub fn next(&mut self) -> Call {
         let call = self.drawn();
+        if matches!(call.kind, Read | Write | Fetch) {
+            self.draw_registers();
+        }
         self.named(call)
+    }
+
+    /// The fault registers of an access, at times others than those that are left, and the acknowledges that come after it.
+    fn draw_registers(&mut self) {
+        let Some(random) = &mut self.registers else { return };
+        if random.below(4) == 0 {
+            self.scene.store.registers = random_registers(random);
+        }
+        for _ in 0..random.one_of(&[0, 0, 0, 0, 1, 2]) {
+            self.plan.push_front(Call::new(Acknowledge, &[]));
+        }
     }
 
     /// The same begin or map with kinds or with the number of one, seldom above 7, if it is to name any.
@@ -272,7 +301,8 @@ impl Lister {
     }
 
     fn anything(&mut self) -> Call {
-        let calls = Kind::ALL.into_iter().filter(|call| *call != Begin && plain_call(*call).is_none());
+        let calls =
+            Kind::ALL.into_iter().filter(|call| ![Begin, Acknowledge].contains(call) && plain_call(*call).is_none());
         let kind = self.random.one_of(&calls.collect::<Vec<Kind>>());
         let mut arguments = [0; NUMBERS];
         for argument in &mut arguments[..RECORD_WORDS] {

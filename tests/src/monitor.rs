@@ -2,7 +2,8 @@
 use std::rc::Rc;
 
 pub use calls::{
-    ledger_bytes, Call, Kind, BLOCK, KINDS_AT, KINDS_BYTES, LEDGER_HEAD, LEDGER_RECORD, MARKED, NO_TABLE, NUMBERS,
+    ledger_bytes, Call, Kind, BLOCK, DFAR, DFSR, IFAR, IFSR, KINDS_AT, KINDS_BYTES, LEDGER_HEAD, LEDGER_RECORD, MARKED,
+    NO_TABLE, NUMBERS, PENDING, REGISTERS_BYTES,
 };
 
 /// The buffers that a call is lent. Copies share the memory until one of them is written.
@@ -13,6 +14,8 @@ pub struct Store {
     pub golden: Vec<u8>,
     /// The memory kinds of a begin that names them.
     pub kinds: Vec<u8>,
+    /// The fault registers of a guest's access and of an acknowledge.
+    pub registers: Vec<u8>,
 }
 
 /// A memory's bytes to be written, no longer shared.
@@ -21,7 +24,7 @@ pub fn own(memory: &mut Rc<Vec<u8>>) -> &mut [u8] {
     bytes
 }
 
-/// What a call gives back: its answer, the byte of a read or fetch, and the number of blocks that a create or map hashed (0 for all others).
+/// What a call gives back: its answer, the byte of a read, fetch or acknowledge, and the number of blocks that a create or map hashed (0 for all others).
 #[derive(Clone, Copy, PartialEq, Eq, Default, Debug)]
 pub struct Given {
     pub answer: u32,

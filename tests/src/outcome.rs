@@ -9,18 +9,25 @@ pub struct Lent<'a> {
     pub ledger: &'a [u8],
     pub golden: &'a [u8],
     pub kinds: &'a [u8],
+    pub registers: &'a [u8],
 }
 
 impl<'a> From<&'a Store> for Lent<'a> {
     fn from(store: &'a Store) -> Lent<'a> {
-        Lent { memory: &store.memory, ledger: &store.ledger, golden: &store.golden, kinds: &store.kinds }
+        Lent {
+            memory: &store.memory,
+            ledger: &store.ledger,
+            golden: &store.golden,
+            kinds: &store.kinds,
+            registers: &store.registers,
+        }
     }
 }
 
 #[derive(Default, PartialEq, Eq)]
 pub struct Outcome {
     pub answer: u32,
-    /// The byte of a read or fetch, 0 for all others.
+    /// The byte of a read, fetch or acknowledge, 0 for all others.
     pub byte: u8,
     /// The number of blocks that a create or map hashed, 0 for all others.
     pub hashed: u32,
@@ -28,23 +35,29 @@ pub struct Outcome {
     pub memory: Vec<(usize, u8)>,
     /// The words of the ledger that are stored, each with the place of its first byte.
     pub ledger: Vec<(usize, u32)>,
+    /// The bytes of the fault registers that are stored, each with its place.
+    pub registers: Vec<(usize, u8)>,
 }
 
 impl Outcome {
     /// Stores what the call stores; nothing where a place lies outside of its buffer.
     pub fn apply(&self, store: &mut Store) -> Given {
         if !self.memory.is_empty() {
-            let memory = own(&mut store.memory);
-            for (at, byte) in &self.memory {
-                if let Some(place) = memory.get_mut(*at) {
-                    *place = *byte;
-                }
-            }
+            put_bytes(own(&mut store.memory), &self.memory);
         }
         for (at, word) in &self.ledger {
             put_word(&mut store.ledger, *at, *word);
         }
+        put_bytes(&mut store.registers, &self.registers);
         Given { answer: self.answer, byte: self.byte, hashed: self.hashed }
+    }
+}
+
+fn put_bytes(buffer: &mut [u8], stored: &[(usize, u8)]) {
+    for (at, byte) in stored {
+        if let Some(place) = buffer.get_mut(*at) {
+            *place = *byte;
+        }
     }
 }
 

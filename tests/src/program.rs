@@ -1,5 +1,5 @@
 //! What `pagemon` has, reads and prints (RULES: program).
-use crate::monitor::{ledger_bytes, Call, Given, Kind, Store, BLOCK};
+use crate::monitor::{ledger_bytes, Call, Given, Kind, Store, BLOCK, REGISTERS_BYTES};
 use std::rc::Rc;
 use Kind::*;
 
@@ -7,10 +7,10 @@ pub use calls::{records, RECORD_BYTES};
 
 pub const BLOCKS: usize = 16;
 
-/// What the program starts from (program 1).
+/// What the program starts from (program 1). The fault registers may change on the way: no answer depends on what they hold.
 pub fn store() -> Store {
     let (memory, ledger) = (Rc::new(vec![0; BLOCK * BLOCKS]), vec![0; ledger_bytes(BLOCKS)]);
-    Store { memory, ledger, golden: Vec::new(), kinds: Vec::new() }
+    Store { memory, ledger, golden: Vec::new(), kinds: Vec::new(), registers: vec![0; REGISTERS_BYTES] }
 }
 
 /// The sample (program 7): calls, their arguments and their lines.

@@ -1,11 +1,11 @@
-//! Lists 7 to 12, 14 and 15 find unsafe monitors by themselves: each monitor here is compared with nothing.
+//! Lists 7 to 12 and 14 to 16 find unsafe monitors by themselves: each monitor here is compared with nothing.
 use std::collections::BTreeSet;
 use tests::faults::{self, Seeded};
 use tests::lists::{self, List};
 use tests::reference::Reference;
 
-/// Faults, each with the clauses that it breaks in the first list without kinds in which it breaks any. Every clause but lists 15 is broken alone by one
-/// of them.
+/// Faults, each with the clauses that it breaks in the first list without kinds in which it breaks any. Every clause but lists 15 and 16 is broken alone
+/// by one of them.
 const UNSAFE: [(&str, &[u32]); 105] = [
     ("create_l2: 11 is not tested", &[7, 11]),
     ("create_l2: 11 compares new entries with the old counters only", &[7, 11]),
@@ -180,6 +180,16 @@ const UNSAFE_WITH_KINDS: [(&str, &[u32]); 62] = [
     ("map_l2_kind: the number is 0 in every place", &[8, 11, 14]),
 ];
 
+/// Faults of acknowledge, with the clauses that each breaks in the first list with drawn fault registers in which it breaks any.
+const UNSAFE_WITH_REGISTERS: [(&str, &[u32]); 6] = [
+    ("acknowledge: acknowledge takes the active table away", &[16]),
+    ("acknowledge: acknowledge clears the first block's mark", &[16]),
+    ("acknowledge: acknowledge marks the first block", &[14, 16]),
+    ("acknowledge: acknowledge counts in the ledger", &[9, 16]),
+    ("acknowledge: acknowledge writes the last kinds", &[15, 16]),
+    ("acknowledge: acknowledge clears the first byte of the memory", &[16]),
+];
+
 fn monitor(fault: &str) -> Seeded {
     Seeded { fault: Some(faults::named(fault).unwrap_or_else(|| panic!("no fault '{fault}'"))) }
 }
@@ -206,6 +216,14 @@ fn unsafe_monitors_with_kinds_are_found() {
         must_break(fault, clauses, lists::lists_with_kinds());
     }
     assert!(UNSAFE_WITH_KINDS.iter().any(|(_, clauses)| *clauses == [15]));
+}
+
+#[test]
+fn unsafe_monitors_with_registers_are_found() {
+    for (fault, clauses) in UNSAFE_WITH_REGISTERS {
+        must_break(fault, clauses, lists::lists_with_registers());
+    }
+    assert!(UNSAFE_WITH_REGISTERS.iter().any(|(_, clauses)| *clauses == [16]));
 }
 
 /// Faults that no list shows by anything but an answer of 13 or 24.

@@ -1,11 +1,15 @@
-//! The reference held against cases that the rules state outright: the numbers of entries 13 to 16 and 22, edges, and the ends of bounds.
+//! The reference held against cases that the rules state outright: the numbers of entries 13 to 16 and 22, the statuses of registers 5, edges, and the
+//! ends of bounds.
 use std::fs;
 use std::path::Path;
 use std::process::Command;
 use std::rc::Rc;
-use tests::bytes::word;
+use tests::bytes::{put_word, word};
 use tests::cases::scene::*;
-use tests::monitor::{plain_call, Call, Given, Kind, Monitor, BLOCK, KINDS_AT, LEDGER_HEAD, NO_TABLE};
+use tests::monitor::{
+    plain_call, Call, Given, Kind, Monitor, BLOCK, DFSR, IFSR, KINDS_AT, LEDGER_HEAD, NO_TABLE, PENDING,
+    REGISTERS_BYTES,
+};
 use tests::reference::entries::{page_number, page_rights, Level};
 use tests::reference::Reference;
 use tests::sha256::Sha256;
@@ -156,12 +160,12 @@ fn numbers_of_kinds() {
     assert_eq!(answer(&mut typed(16), MapL2Kind, &[0x105, 0, 0x105, 1, 7]), 5);
 }
 
-/// Every call but the two begins refuses a ledger with one unlawful kind, and these replace it.
+/// Every call that is lent a ledger with one unlawful kind refuses it, but for the two begins, which replace the kind.
 #[test]
 fn unlawful_kinds() {
     for number in 0..8 {
         for (kind, is_lawful) in [(0x7F, true), (0x80, false), (0x100, false), (0xFFFF, false)] {
-            for call in Kind::ALL {
+            for call in Kind::ALL.into_iter().filter(|call| *call != Acknowledge) {
                 let mut scene = typed(16);
                 scene.set_kind(number, kind);
                 let refused = answer(&mut scene, call, &[0x100]) == 1;
@@ -537,6 +541,106 @@ fn guest_bytes() {
     assert_eq!(given(Fetch, &[0x5001]), (23, 0));
     assert_eq!(given(Read, &[0x6001]), (22, 0));
     assert_eq!(scene.store.memory[8 * BLOCK..8 * BLOCK + 4], [0, 0x78, 0, 0]);
+}
+
+/// Fault registers with these words where a fault tells, and else as they were.
+fn told(status_at: usize, status: u32, address: u32) -> Vec<u8> {
+    let mut registers = old_registers();
+    put_word(&mut registers, status_at, status);
+    put_word(&mut registers, status_at + 4, address);
+    registers[PENDING] = 1;
+    registers
+}
+
+/// Entry 0 of an active table links to an L2 table with a page and a large page, entry 1 is a section, and none of these gives a right.
+fn without_rights() -> Scene {
+    let mut scene = typed(512);
+    scene.activate(0);
+    scene.put(0, 0, scene.link(4, 0));
+    scene.put(0, 1, scene.mapping(256, SECTION_NONE));
+    scene.put(4, 5, scene.mapping(8, PAGE_NONE));
+    scene.put_run(4, 16, scene.mapping(16, LARGE_NONE));
+    scene
+}
+
+/// registers 5: no entry of either level, then a section, a page and a large page that lack the right.
+#[test]
+fn statuses() {
+    let scene = without_rights();
+    for (address, expected, status) in [
+        (0x0020_0000, 22, 0x005),
+        (u32::MAX, 22, 0x005),
+        (0x0000_0000, 22, 0x007),
+        (0x0000_6FFF, 22, 0x007),
+        (0x0012_3456, 23, 0x00D),
+        (0x0000_5001, 23, 0x00F),
+        (0x0001_0000, 23, 0x00F),
+        (0x0001_FFFF, 23, 0x00F),
+    ] {
+        for (kind, status_at, of_write) in [(Read, DFSR, 0), (Write, DFSR, 0x800), (Fetch, IFSR, 0)] {
+            let mut scene = scene.clone();
+            assert_eq!(answer(&mut scene, kind, &[address]), expected, "{kind:?} {address:#x}");
+            assert_eq!(scene.store.registers, told(status_at, status | of_write, address), "{kind:?} {address:#x}");
+        }
+    }
+}
+
+/// A write without an entry, byte for byte, and then a fetch without the right.
+#[test]
+fn bytes_of_fault_registers() {
+    let mut scene = without_rights();
+    scene.store.registers = vec![0; REGISTERS_BYTES];
+    assert_eq!(answer(&mut scene, Write, &[0x1234_5678, 9]), 22);
+    let [data, none] = [[0x05, 0x08, 0, 0, 0x78, 0x56, 0x34, 0x12], [0; 8]];
+    assert_eq!(scene.store.registers, [&data[..], &none, &[1]].concat());
+    assert_eq!(answer(&mut scene, Fetch, &[0x0000_5ABC]), 23);
+    assert_eq!(scene.store.registers, [&data[..], &[0x0F, 0, 0, 0, 0xBC, 0x5A, 0, 0], &[1]].concat());
+}
+
+/// 0, 1, 21 and 24 leave them, as does a number of bytes that is not 17.
+#[test]
+fn fault_registers_that_stay() {
+    let mut scene = without_rights();
+    scene.put(4, 5, scene.mapping(8, PAGE_ALL));
+    scene.put(0, 3, 3);
+    for (address, expected) in [(0x5000, 0), (0x0030_0000, 24)] {
+        for kind in [Read, Write, Fetch] {
+            assert_eq!(answer(&mut scene, kind, &[address]), expected);
+            assert_eq!(scene.store.registers, old_registers());
+        }
+    }
+    for (active, length, expected) in [(NO_TABLE, 17, 21), (0x100, 16, 1), (0x100, 18, 1), (NO_TABLE, 0, 1)] {
+        for (kind, address) in [(Read, 0x5000), (Write, 0x0020_0000), (Fetch, 0x0030_0000)] {
+            let mut scene = scene.clone();
+            scene.set_active(active);
+            scene.store.registers.resize(length, 1);
+            let before = scene.store.registers.clone();
+            assert_eq!(answer(&mut scene, kind, &[address]), expected, "{length} bytes");
+            assert_eq!(scene.store.registers, before);
+        }
+    }
+}
+
+/// The pending byte is given as it is, and cleared; a second time it is 0. Of 16 or 18 bytes nothing is given.
+#[test]
+fn acknowledges() {
+    for (length, pending, expected) in
+        [(17, 0, 0), (17, 1, 0), (17, 7, 0), (17, 255, 0), (16, 1, 1), (18, 1, 1), (0, 1, 1)]
+    {
+        let mut scene = Scene::new(0x100, 8);
+        scene.store.registers = old_registers();
+        scene.store.registers[PENDING] = pending;
+        scene.store.registers.resize(length, 1);
+        let (mut left, is_accepted) = (scene.store.clone(), expected == 0);
+        if is_accepted {
+            left.registers[PENDING] = 0;
+        }
+        for byte in [if is_accepted { pending } else { 0 }, 0] {
+            let given = Reference::new().perform(Call::new(Acknowledge, &[]), &mut scene.store);
+            assert_eq!((given.answer, given.byte), (expected, byte), "{length} bytes, pending {pending}");
+            assert!(scene.store == left, "{length} bytes, pending {pending}");
+        }
+    }
 }
 
 #[test]

@@ -2,7 +2,7 @@
 use std::rc::Rc;
 use tests::cases::scene::{kind_bytes, Scene};
 use tests::lists::Lister;
-use tests::monitor::{ledger_bytes, Call, Given, Kind, Monitor, Store, BLOCK, NUMBERS};
+use tests::monitor::{ledger_bytes, Call, Given, Kind, Monitor, Store, BLOCK, NUMBERS, REGISTERS_BYTES};
 use tests::program::{bad_records, records, RECORD_BYTES};
 use tests::random::Random;
 use tests::reference::Reference;
@@ -133,7 +133,8 @@ fn unlawful_buffers() {
     let lengths = [(0, 0), (7 * BLOCK, ledger_bytes(7)), (8 * BLOCK - 1, right), (8 * BLOCK, right + 1)];
     for (memory, ledger) in lengths {
         let (memory_bytes, ledger_bytes) = (Rc::new(random.bytes(memory)), random.bytes(ledger));
-        let store = Store { memory: memory_bytes, ledger: ledger_bytes, golden: random.bytes(32), kinds: Vec::new() };
+        let (golden, kinds, registers) = (random.bytes(32), Vec::new(), vec![0; REGISTERS_BYTES]);
+        let store = Store { memory: memory_bytes, ledger: ledger_bytes, golden, kinds, registers };
         let part = Part { before: store.clone(), steps: refused.clone(), after: store };
         part.must_come_of_its_records(&format!("{memory} bytes of memory, {ledger} of ledger"));
     }

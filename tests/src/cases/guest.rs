@@ -28,7 +28,7 @@ struct Guest {
 }
 
 /// An active L1 table in blocks 4 to 7 and an L2 block 8, both of zeros, and data with some bytes from block 9 on. All blocks are marked.
-fn tables(blocks: usize) -> Scene {
+pub fn tables(blocks: usize) -> Scene {
     let mut scene = Scene::new(0x300, blocks);
     scene.set_marks(0..blocks, MARKED);
     let mut random = Random::new(20);

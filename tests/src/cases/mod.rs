@@ -7,6 +7,7 @@ mod marks;
 mod places;
 mod reasons;
 mod regions;
+mod registers;
 pub mod scene;
 mod simple;
 mod tables;
@@ -32,8 +33,11 @@ impl Case {
     }
 }
 
-/// All cases of one call; the largest regions last.
+/// All cases of one call; the largest regions last. Acknowledge is lent no region.
 pub fn run(kind: Kind, comparer: &mut Comparer) -> Outcome {
+    if kind == Kind::Acknowledge {
+        return registers::acknowledge(comparer);
+    }
     regions::small(kind, comparer)?;
     match plain_call(kind) {
         Some(plain) => comparer.naming_memory_kinds(|comparer| rules(plain, comparer))?,
@@ -50,6 +54,7 @@ fn rules(kind: Kind, comparer: &mut Comparer) -> Outcome {
         Kind::Switch => simple::switch(comparer)?,
         Kind::Forget => {}
         Kind::Read | Kind::Write | Kind::Fetch => {
+            registers::run(kind, comparer)?;
             guest::run(kind, comparer)?;
             large::run(kind, comparer)?;
         }

@@ -54,6 +54,7 @@ pub fn valid(kind: Kind, first: u32, blocks: usize) -> Case {
         Read | Write => &[0x123, 0x5A],
         Fetch => &[0x1FFF],
         Forget => &[first, blocks as u32],
+        Acknowledge => &[],
     };
     let needed = match kind {
         MapL1 | MapL1Kind => 256,

@@ -2,7 +2,9 @@
 use super::Case;
 use crate::bytes::{put_word, word};
 use crate::hasher::block_digest;
-use crate::monitor::{own, Call, Kind, Store, BLOCK, KINDS_AT, LEDGER_HEAD, LEDGER_RECORD, NO_TABLE};
+use crate::monitor::{
+    own, Call, Kind, Store, BLOCK, KINDS_AT, LEDGER_HEAD, LEDGER_RECORD, NO_TABLE, PENDING, REGISTERS_BYTES,
+};
 use crate::random::Random;
 use std::ops::Range;
 use std::rc::Rc;
@@ -54,6 +56,22 @@ pub fn random_unlawful(random: &mut Random) -> u16 {
     }
 }
 
+/// Fault registers of 17 bytes that all differ. None of the words is a status, and the pending byte is neither 0 nor 1.
+pub fn old_registers() -> Vec<u8> {
+    (0..REGISTERS_BYTES as u8).map(|at| 0xA1 + 5 * at).collect()
+}
+
+/// Any fault registers, seldom not 17 bytes.
+pub fn random_registers(random: &mut Random) -> Vec<u8> {
+    let length = match random.below(16) {
+        0 => random.one_of(&[0, 1, 8, 15, 16, 18, 34]),
+        _ => REGISTERS_BYTES,
+    };
+    let (mut registers, pending) = (random.bytes(length), random.one_of(&[0, 1, 1, 7, 255]));
+    registers.iter_mut().skip(PENDING).for_each(|byte| *byte = pending);
+    registers
+}
+
 /// A region in the making. Blocks are counted from the region's start.
 #[derive(Clone)]
 pub struct Scene {
@@ -67,8 +85,9 @@ impl Scene {
         let mut ledger = vec![0; LEDGER_HEAD + LEDGER_RECORD * blocks];
         put_word(&mut ledger, 0, first);
         put_word(&mut ledger, 4, NO_TABLE);
-        let (memory, golden, kinds) = (Rc::new(vec![0; BLOCK * blocks]), Vec::new(), kind_bytes(&NEW_KINDS));
-        let mut scene = Scene { first, store: Store { memory, ledger, golden, kinds } };
+        let (memory, golden) = (Rc::new(vec![0; BLOCK * blocks]), Vec::new());
+        let (kinds, registers) = (kind_bytes(&NEW_KINDS), old_registers());
+        let mut scene = Scene { first, store: Store { memory, ledger, golden, kinds, registers } };
         scene.set_kinds(&KINDS);
         scene
     }

@@ -8,8 +8,8 @@ use crate::outcome::Outcome;
 
 /// Where a walk ends: a byte of memory, and the rights of the last entry.
 pub struct End {
-    at: usize,
-    rights: Rights,
+    pub at: usize,
+    pub rights: Rights,
 }
 
 impl View<'_> {
@@ -31,7 +31,7 @@ impl View<'_> {
     /// guest list; a walk has one of the last three at most
     pub fn guest_refusals(&self) -> Vec<Refusal<'_>> {
         refusals![
-            1 => self.region_wrong(),
+            1 => self.region_wrong() || self.registers_wrong(),
             21 => self.no_active_table(),
             22 => self.access() == Err(22),
             23 => self.access() == Err(23),
@@ -45,14 +45,27 @@ impl View<'_> {
         active % 4 != 0 || !self.inside(active, 4)
     }
 
-    fn address(&self) -> u32 {
+    pub fn address(&self) -> u32 {
         self.arguments[0]
     }
 
+    /// The entry at which the walk starts.
+    fn first_entry(&self) -> Entry {
+        self.entry(Level::L1, u64::from(self.active()), bits(self.address(), 31, 20))
+    }
+
+    /// registers 2: the level of the entry at which a walk stops or ends that meets no other refusal than 22 and 23.
+    pub fn reached_level(&self) -> Level {
+        if self.first_entry().links() {
+            Level::L2
+        } else {
+            Level::L1
+        }
+    }
+
     /// guest walk; a walk that is refused gives the number
-    fn walk(&self) -> Result<End, u32> {
-        let entry = self.entry(Level::L1, u64::from(self.active()), bits(self.address(), 31, 20));
-        match self.met(entry)? {
+    pub fn walk(&self) -> Result<End, u32> {
+        match self.met(self.first_entry())? {
             Entry::Link { block, table } => self.walk_on(block, table),
             section => Ok(self.end(section, bits(self.address(), 19, 12))),
         }

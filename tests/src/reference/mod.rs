@@ -8,6 +8,7 @@ mod mapping;
 mod marks;
 mod refusals;
 mod region;
+mod registers;
 mod tables;
 
 use crate::monitor::{Call, Kind, Store, NUMBERS};
@@ -70,6 +71,7 @@ pub struct View<'a> {
     ledger: &'a [u8],
     golden: &'a [u8],
     given_kinds: &'a [u8],
+    registers: &'a [u8],
     /// The entries of the table that the call names, once they have been read.
     entries: OnceCell<Vec<Entry>>,
     /// What the call adds to the counter of each block, once it has been counted.
@@ -79,10 +81,10 @@ pub struct View<'a> {
 impl<'a> View<'a> {
     pub fn new(call: Call, lent: Lent<'a>) -> View<'a> {
         let Call { kind, arguments } = naming_memory_kind(call);
-        let Lent { memory, ledger, golden, kinds } = lent;
+        let Lent { memory, ledger, golden, kinds, registers } = lent;
         let given_kinds = given_kinds(call.kind, kinds);
         let (entries, changes) = (OnceCell::new(), OnceCell::new());
-        View { kind, arguments, memory, ledger, golden, given_kinds, entries, changes }
+        View { kind, arguments, memory, ledger, golden, given_kinds, registers, entries, changes }
     }
 
     /// What the call gives and leaves with this answer.
@@ -92,6 +94,7 @@ impl<'a> View<'a> {
         if answer == 0 {
             self.leave(&mut outcome);
         }
+        self.tell_fault(&mut outcome);
         outcome
     }
 
@@ -107,6 +110,7 @@ impl<'a> View<'a> {
             Switch => self.switch_refusals(),
             Read | Write | Fetch => self.guest_refusals(),
             Forget => self.forget_refusals(),
+            Acknowledge => self.acknowledge_refusals(),
         }
     }
 
@@ -123,6 +127,7 @@ impl<'a> View<'a> {
             Read | Fetch => self.guest_byte(outcome),
             Write => self.guest_leaves(outcome),
             Forget => self.forget_leaves(outcome),
+            Acknowledge => self.acknowledge_leaves(outcome),
         }
     }
 
