@@ -13,8 +13,10 @@
 enum { BLOCKS = 16, TABLE = 0, PAGES = 4, CODE = 8, WRITER = 5, RUNNER = 6, PATCH = 0x2F };
 
 static uint8_t memory[BLOCKS * PAGEMON_BLOCK_BYTES], ledger[PAGEMON_LEDGER_BYTES(BLOCKS)], golden[PAGEMON_DIGEST_BYTES];
+static uint8_t registers[PAGEMON_REGISTERS_BYTES];
 
 #define REGION memory, sizeof memory, ledger, sizeof ledger
+#define REGISTERS registers, sizeof registers
 
 /* A mapping as the guest asked for it, and the rights that it has now. */
 struct mapping {
@@ -89,16 +91,16 @@ int main(void)
 
     expect("map to write", map_or_less(&writer), PAGEMON_ACCEPTED);
     expect("map to execute: held back, only read", map_or_less(&runner), PAGEMON_ACCEPTED);
-    expect("  the guest fetches: a prefetch abort", pagemon_fetch(REGION, 0x6000, &byte), PAGEMON_RIGHT_LACKING);
+    expect("  the guest fetches: a prefetch abort", pagemon_fetch(REGION, REGISTERS, 0x6000, &byte), PAGEMON_RIGHT_LACKING);
     expect("resume execute: the writer is downgraded", resume(&runner, &writer), PAGEMON_ACCEPTED);
-    expect("  the guest fetches", pagemon_fetch(REGION, 0x6000, &byte), PAGEMON_ACCEPTED);
-    expect("  the guest writes: a data abort", pagemon_write(REGION, 0x5000, PATCH), PAGEMON_RIGHT_LACKING);
+    expect("  the guest fetches", pagemon_fetch(REGION, REGISTERS, 0x6000, &byte), PAGEMON_ACCEPTED);
+    expect("  the guest writes: a data abort", pagemon_write(REGION, REGISTERS, 0x5000, PATCH), PAGEMON_RIGHT_LACKING);
     expect("resume write: the runner is downgraded", resume(&writer, &runner), PAGEMON_ACCEPTED);
-    expect("  the guest writes", pagemon_write(REGION, 0x5000, PATCH), PAGEMON_ACCEPTED);
+    expect("  the guest writes", pagemon_write(REGION, REGISTERS, 0x5000, PATCH), PAGEMON_ACCEPTED);
     expect("resume execute: refused, the block is no longer signed", resume(&runner, &writer), PAGEMON_UNSIGNED);
-    expect("  the guest reads as before", pagemon_read(REGION, 0x6000, &byte), PAGEMON_ACCEPTED);
+    expect("  the guest reads as before", pagemon_read(REGION, REGISTERS, 0x6000, &byte), PAGEMON_ACCEPTED);
     failures += byte != PATCH;
-    expect("  the guest fetches: a prefetch abort, its own to handle", pagemon_fetch(REGION, 0x6000, &byte), PAGEMON_RIGHT_LACKING);
-    expect("  the guest writes as before", pagemon_write(REGION, 0x5000, PATCH), PAGEMON_ACCEPTED);
+    expect("  the guest fetches: a prefetch abort, its own to handle", pagemon_fetch(REGION, REGISTERS, 0x6000, &byte), PAGEMON_RIGHT_LACKING);
+    expect("  the guest writes as before", pagemon_write(REGION, REGISTERS, 0x5000, PATCH), PAGEMON_ACCEPTED);
     return failures != 0;
 }

@@ -12,8 +12,10 @@ enum { BLOCKS = 16, FIRST = 0x100, NEXT = 0x200 };
 enum { TABLE = 0, PAGES = 4, ONE = 8, TWO = 9 }; /* counted from the region's start */
 
 static uint8_t memory[BLOCKS * PAGEMON_BLOCK_BYTES], ledger[PAGEMON_LEDGER_BYTES(BLOCKS)], golden[2 * PAGEMON_DIGEST_BYTES];
+static uint8_t registers[PAGEMON_REGISTERS_BYTES];
 
 #define REGION memory, sizeof memory, ledger, sizeof ledger
+#define REGISTERS registers, sizeof registers
 
 static int failures = 0;
 
@@ -50,7 +52,7 @@ static void map(const char *what, uint32_t first, uint32_t position, uint32_t ex
 static void fetch(const char *what, uint32_t position, uint8_t expected)
 {
     uint8_t byte = 0;
-    uint32_t answer = pagemon_fetch(REGION, position * PAGEMON_BLOCK_BYTES, &byte);
+    uint32_t answer = pagemon_fetch(REGION, REGISTERS, position * PAGEMON_BLOCK_BYTES, &byte);
     printf("  %-46s %2u, 0x%02X\n", what, (unsigned)answer, (unsigned)byte);
     failures += answer != PAGEMON_ACCEPTED || byte != expected;
 }

@@ -14,8 +14,10 @@ enum { BLOCKS = 16, TABLE = 0, PAGES = 4, NEW_PAGES = 5, CODE = 8, PAGE = 5, GOO
 enum { WRITES = PAGEMON_READ | PAGEMON_WRITE, EXECUTES = PAGEMON_READ | PAGEMON_EXECUTE };
 
 static uint8_t memory[BLOCKS * PAGEMON_BLOCK_BYTES], ledger[PAGEMON_LEDGER_BYTES(BLOCKS)], golden[PAGEMON_DIGEST_BYTES];
+static uint8_t registers[PAGEMON_REGISTERS_BYTES];
 
 #define REGION memory, sizeof memory, ledger, sizeof ledger
+#define REGISTERS registers, sizeof registers
 
 static int failures = 0;
 
@@ -73,7 +75,7 @@ static void requests(bool forgets)
         return;
     }
     expect_map("map to execute: the mark is believed", EXECUTES, PAGEMON_ACCEPTED, 0);
-    expect("the guest fetches what nobody signed", pagemon_fetch(REGION, PAGE * PAGEMON_BLOCK_BYTES, &byte), PAGEMON_ACCEPTED);
+    expect("the guest fetches what nobody signed", pagemon_fetch(REGION, REGISTERS, PAGE * PAGEMON_BLOCK_BYTES, &byte), PAGEMON_ACCEPTED);
     failures += byte != BAD;
 }
 

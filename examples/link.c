@@ -4,9 +4,11 @@
 #include <stdio.h>
 
 static uint8_t memory[16 * PAGEMON_BLOCK_BYTES], ledger[PAGEMON_LEDGER_BYTES(16)];
+static uint8_t registers[PAGEMON_REGISTERS_BYTES]; /* the guest processor's fault registers */
 static const uint8_t golden[PAGEMON_DIGEST_BYTES]; /* one digest, that of no block here */
 
 #define REGION memory, sizeof memory, ledger, sizeof ledger
+#define REGISTERS registers, sizeof registers
 
 int main(void)
 {
@@ -18,7 +20,8 @@ int main(void)
                   || pagemon_link(REGION, 0, 0, 4, 0)                              /* the first of them at entry 0 */
                   || pagemon_map_l2(REGION, golden, sizeof golden, 4, 5, 8, PAGEMON_READ | PAGEMON_WRITE, &hashed)
                   || pagemon_forget(REGION, 8, 1)                                  /* the guest may write block 8 from now on */
-                  || pagemon_switch(REGION, 0) || pagemon_write(REGION, 0x5000, 'A') || pagemon_read(REGION, 0x5000, &byte);
+                  || pagemon_switch(REGION, 0) || pagemon_write(REGION, REGISTERS, 0x5000, 'A')
+                  || pagemon_read(REGION, REGISTERS, 0x5000, &byte);
     printf("%s, the guest reads %c\n", refused ? "refused" : "accepted", byte);
     return refused || byte != 'A';
 }

@@ -31,6 +31,12 @@ const LARGE_BLOCKS: u32 = 16;
 /// The bytes of a large page's sixteen entries.
 const RUN: usize = 64;
 
+/// Where the fault registers have the status and the address of a data fault and of a fetch's, and the pending byte.
+const DATA_FAULT: usize = 0;
+const FETCH_FAULT: usize = 8;
+const PENDING: usize = 16;
+type Registers = [u8; 17];
+
 /// Nothing, or the number of a refusal. Of creates and maps: how many blocks were hashed, or that number.
 type Judged<T = ()> = Result<T, u32>;
 
@@ -1095,6 +1101,28 @@ pub fn switch(memory: &[u8], ledger: &mut [u8], block: u32) -> u32 {
     answer(judge_switch(memory, ledger, block))
 }
 
+/// In the number of a refusal: the walk stopped or ended at an L2 entry.
+const AT_L2: u32 = 1 << 8;
+/// In a status: the access was a write.
+const OF_WRITE: u32 = 1 << 11;
+
+/// Stores what a fault tells, and gives the answer.
+#[cold]
+#[inline(never)]
+fn tell(registers: &mut Registers, place: usize, access: u32, address: u32, number: u32) -> u32 {
+    let answer = number & !AT_L2;
+    let code = match answer {
+        22 => 0b00101,
+        23 => 0b01101,
+        _ => return answer,
+    };
+    let level = if number & AT_L2 != 0 { 0b10 } else { 0 };
+    put_word(registers, place, code | level | access);
+    put_word(registers, place + 4, address);
+    registers[PENDING] = 1;
+    answer
+}
+
 /// The block to which an L2 entry that is no page leads, and its rights: one of a large page, or refusal 24.
 #[inline(always)]
 fn walk_large(memory: &[u8], region: Region, at: usize) -> Judged<(usize, u32)> {
@@ -1108,36 +1136,49 @@ fn walk_large(memory: &[u8], region: Region, at: usize) -> Judged<(usize, u32)> 
     }
 }
 
-/// The place in memory to which the address leads, if all rights are there.
+/// The place in memory to which the address leads, if all rights are there. A fault at an L2 entry has AT_L2.
 #[inline(always)]
 fn walk(memory: &[u8], ledger: &[u8], address: u32, needed: u32) -> Judged<usize> {
     let region = Region::stored(memory, ledger)?;
     let active = word(ledger, 4);
     let table = region.place(active, L1_BLOCKS).filter(|_| active % L1_BLOCKS == 0).ok_or(21u32)?;
     let index = (address >> 20) as usize;
-    let (b, rights) = match l1_entry(word(memory, BLOCK * table + 4 * index)) {
+    let (b, rights, level) = match l1_entry(word(memory, BLOCK * table + 4 * index)) {
         Entry::Fault => return Err(22),
         Entry::Unaccepted => return Err(24),
         Entry::Mapping(first, m, rights) => {
             let b = region.place(first, m).ok_or(24u32)?;
-            (b + (address as usize >> 12) % 256, rights)
+            (b + (address as usize >> 12) % 256, rights, 0)
         }
         Entry::Link(place) => {
             let b = region.place(place / 4, 1).ok_or(24u32)?;
             let at = BLOCK * b + 1024 * (place as usize % 4) + 4 * ((address as usize >> 12) % 256);
-            match l2_entry(word(memory, at)) {
-                Entry::Fault => return Err(22),
+            let (b, rights) = match l2_entry(word(memory, at)) {
+                Entry::Fault => return Err(22 | AT_L2),
                 Entry::Mapping(first, m, rights) => (region.place(first, m).ok_or(24u32)?, rights),
                 _ => walk_large(memory, region, at)?,
-            }
+            };
+            (b, rights, AT_L2)
         }
     };
-    refuse_if(rights & needed == 0, 23)?;
+    refuse_if(rights & needed == 0, 23 | level)?;
     Ok(BLOCK * b + address as usize % BLOCK)
 }
 
 #[inline(always)]
-fn load(memory: &[u8], ledger: &[u8], address: u32, needed: u32, byte: &mut u8) -> u32 {
+fn load(
+    memory: &[u8],
+    ledger: &[u8],
+    registers: &mut [u8],
+    place: usize,
+    address: u32,
+    needed: u32,
+    byte: &mut u8,
+) -> u32 {
+    let Ok(registers) = registers.try_into() else {
+        *byte = 0;
+        return 1;
+    };
     match walk(memory, ledger, address, needed) {
         Ok(at) => {
             *byte = memory[at];
@@ -1145,31 +1186,42 @@ fn load(memory: &[u8], ledger: &[u8], address: u32, needed: u32, byte: &mut u8) 
         }
         Err(number) => {
             *byte = 0;
-            number
+            tell(registers, place, 0, address, number)
         }
     }
 }
 
 #[inline(never)]
-pub fn read(memory: &[u8], ledger: &[u8], address: u32, byte: &mut u8) -> u32 {
-    load(memory, ledger, address, READ, byte)
+pub fn read(memory: &[u8], ledger: &[u8], registers: &mut [u8], address: u32, byte: &mut u8) -> u32 {
+    load(memory, ledger, registers, DATA_FAULT, address, READ, byte)
 }
 
 #[inline(never)]
-pub fn fetch(memory: &[u8], ledger: &[u8], address: u32, byte: &mut u8) -> u32 {
-    load(memory, ledger, address, EXECUTE, byte)
+pub fn fetch(memory: &[u8], ledger: &[u8], registers: &mut [u8], address: u32, byte: &mut u8) -> u32 {
+    load(memory, ledger, registers, FETCH_FAULT, address, EXECUTE, byte)
 }
 
 #[inline(never)]
-pub fn write(memory: &mut [u8], ledger: &mut [u8], address: u32, byte: u32) -> u32 {
+pub fn write(memory: &mut [u8], ledger: &mut [u8], registers: &mut [u8], address: u32, byte: u32) -> u32 {
+    let Ok(registers) = registers.try_into() else { return 1 };
     match walk(memory, ledger, address, WRITE) {
         Ok(at) => {
             memory[at] = byte as u8;
             unmark(ledger, at);
             0
         }
-        Err(number) => number,
+        Err(number) => tell(registers, DATA_FAULT, OF_WRITE, address, number),
     }
+}
+
+#[inline(never)]
+pub fn acknowledge(registers: &mut [u8], pending: &mut u8) -> u32 {
+    let Ok(registers): Result<&mut Registers, _> = registers.try_into() else {
+        *pending = 0;
+        return 1;
+    };
+    *pending = std::mem::take(&mut registers[PENDING]);
+    0
 }
 
 #[inline(always)]

@@ -1,10 +1,12 @@
-//! The two programs do the same: answers, bytes and numbers given, memory and ledger, for every workload and for random calls.
+//! The two programs do the same: answers, bytes and numbers given, memory, ledger and fault registers, for every workload and for random calls.
 use crate::baseline::COUNT;
 use crate::digest::block_digest;
 use crate::program::{Buffers, Given, Monitor, Plain, Program};
 use crate::workloads::Batch;
 use calls::random::Random;
-use calls::{ledger_bytes, Kind, BLOCK, KINDS_AT, KINDS_BYTES, LEDGER_HEAD, LEDGER_RECORD, MARKED, NUMBERS};
+use calls::{
+    ledger_bytes, Kind, BLOCK, KINDS_AT, KINDS_BYTES, LEDGER_HEAD, LEDGER_RECORD, MARKED, NUMBERS, REGISTERS_BYTES,
+};
 use std::collections::BTreeSet;
 
 fn given<P: Program>(kind: Kind, words: &[[u32; NUMBERS]], lent: &mut Buffers) -> Vec<Given> {
@@ -21,6 +23,7 @@ fn both(kind: Kind, words: &[[u32; NUMBERS]], lent: &mut Buffers) -> Vec<Given> 
     assert!(ours == plain, "{kind:?} {words:x?}: the monitor gives {ours:?}, the plain program {plain:?}");
     assert!(lent.memory == other.memory, "{kind:?} {words:x?}: the memory differs");
     assert!(lent.ledger == other.ledger, "{kind:?} {words:x?}: the ledger differs");
+    assert!(lent.registers == other.registers, "{kind:?} {words:x?}: the fault registers differ");
     let cleared = other.scratch.chunks_exact(COUNT).all(|count| count[4..] == [0; COUNT - 4]);
     assert!(cleared, "{kind:?} {words:x?}: counts are left in the scratch bytes");
     ours
@@ -53,6 +56,7 @@ impl Drawn {
             ledger: vec![0; ledger_bytes(blocks)],
             golden: (0..1024).flat_map(|number| block_digest(number, &[0; BLOCK])).collect(),
             kinds: vec![0; KINDS_BYTES],
+            registers: vec![0; REGISTERS_BYTES],
             scratch: vec![0; COUNT * blocks],
         };
         let mut random = Random::new(seed);
@@ -205,8 +209,14 @@ impl Drawn {
                 let block = self.block();
                 [self.random.one_of(&[self.first, block]), count, 0, 0]
             }
+            Kind::Acknowledge => [0; 4],
         };
         [a, b, c, d, number]
+    }
+
+    /// Any fault registers.
+    fn draw_registers(&mut self) {
+        self.lent.registers = self.random.bytes(REGISTERS_BYTES);
     }
 
     /// One call, at times with a buffer of another length.
@@ -220,11 +230,13 @@ impl Drawn {
             return answer;
         }
         let mut lent = self.lent.clone();
-        match self.random.below(5) {
+        match self.random.below(7) {
             0 => lent.memory.truncate(BLOCK * self.random.below(9) + self.random.below(2)),
             1 => lent.ledger.push(0),
             2 => lent.ledger.truncate(self.random.below(LEDGER_HEAD + 1)),
             3 => lent.kinds.push(0),
+            4 => lent.registers.push(0),
+            5 => lent.registers.truncate(self.random.below(REGISTERS_BYTES)),
             _ => lent.golden.push(0),
         }
         both(kind, &words, &mut lent)[0].answer
@@ -253,6 +265,9 @@ pub fn check_random(calls: usize) -> usize {
                 }
                 if drawn.random.below(100) == 0 {
                     drawn.poke_kind();
+                }
+                if drawn.random.below(4) == 0 {
+                    drawn.draw_registers();
                 }
                 let kind = match drawn.random.below(100) {
                     0 => Kind::Begin,

@@ -10,6 +10,7 @@ pub struct Buffers {
     pub ledger: Vec<u8>,
     pub golden: Vec<u8>,
     pub kinds: Vec<u8>,
+    pub registers: Vec<u8>,
     pub scratch: Vec<u8>,
 }
 
@@ -35,10 +36,11 @@ pub struct Plain;
 impl Program for Monitor {
     #[inline(always)]
     fn batch(kind: Kind, words: &[[u32; NUMBERS]], lent: &mut Buffers, mut note: impl FnMut(Given)) {
-        let Buffers { memory, ledger, golden, kinds, .. } = lent;
-        let lent = PerBuffer { memory, ledger, golden, kinds }.map(|buffer| buffer.as_mut_slice().into());
+        let Buffers { memory, ledger, golden, kinds, registers, .. } = lent;
+        let lent = PerBuffer { memory, ledger, golden, kinds, registers }.map(|buffer| buffer.as_mut_slice().into());
         let (mut byte, mut hashed) = (0, 0);
-        let outputs = Outputs { byte: &raw mut byte, hashed: &raw mut hashed };
+        let place = &raw mut byte;
+        let outputs = Outputs { byte: place, pending: place, hashed: &raw mut hashed };
         let note = |answer| {
             // SAFETY: nothing writes the outputs between two calls.
             let (byte, hashed) = unsafe { (*outputs.byte, *outputs.hashed) };
@@ -70,8 +72,9 @@ macro_rules! batches {
 impl Program for Plain {
     #[inline(always)]
     fn batch(kind: Kind, words: &[[u32; NUMBERS]], lent: &mut Buffers, mut note: impl FnMut(Given)) {
-        let Buffers { memory, ledger, golden, kinds, scratch } = lent;
+        let Buffers { memory, ledger, golden, kinds, registers, scratch } = lent;
         let (memory, ledger, scratch) = (&mut memory[..], &mut ledger[..], &mut scratch[..]);
+        let registers = &mut registers[..];
         let (golden, kinds) = (&golden[..], &kinds[..]);
         batches!(words, note, kind, {
             Begin(&[a, ..], _) => baseline::begin(memory, ledger, a),
@@ -85,9 +88,9 @@ impl Program for Plain {
             UnmapL1(&[a, b, ..], _) => baseline::unmap_l1(memory, ledger, a, b),
             UnmapL2(&[a, b, ..], _) => baseline::unmap_l2(memory, ledger, a, b),
             Switch(&[a, ..], _) => baseline::switch(memory, ledger, a),
-            Read(&[a, ..], Given { byte, .. }) => baseline::read(memory, ledger, a, byte),
-            Write(&[a, b, ..], _) => baseline::write(memory, ledger, a, b),
-            Fetch(&[a, ..], Given { byte, .. }) => baseline::fetch(memory, ledger, a, byte),
+            Read(&[a, ..], Given { byte, .. }) => baseline::read(memory, ledger, registers, a, byte),
+            Write(&[a, b, ..], _) => baseline::write(memory, ledger, registers, a, b),
+            Fetch(&[a, ..], Given { byte, .. }) => baseline::fetch(memory, ledger, registers, a, byte),
             MapLarge(&[a, b, c, d, _], Given { hashed, .. }) => {
                 baseline::map_large(memory, ledger, golden, a, b, c, d, hashed)
             },
@@ -103,6 +106,7 @@ impl Program for Plain {
             MapLargeKind(&[a, b, c, d, e], Given { hashed, .. }) => {
                 baseline::map_large_kind(memory, ledger, golden, a, b, c, d, e, hashed)
             },
+            Acknowledge(_, Given { byte, .. }) => baseline::acknowledge(registers, byte),
         })
     }
 }

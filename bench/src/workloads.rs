@@ -3,7 +3,7 @@ use crate::baseline::COUNT;
 use crate::digest::block_digest;
 use crate::program::{Buffers, Given, Plain, Program};
 use calls::random::Random;
-use calls::{ledger_bytes, Kind, BLOCK, KINDS_BYTES, NUMBERS};
+use calls::{ledger_bytes, Kind, BLOCK, KINDS_BYTES, NUMBERS, REGISTERS_BYTES};
 use Kind::*;
 
 /// The region's first block.
@@ -64,6 +64,7 @@ impl Scene {
             ledger: vec![0; ledger_bytes(blocks)],
             golden: Vec::new(),
             kinds: (0..KINDS_BYTES as u8).map(|i| if i % 2 == 0 { 9 * i } else { 0 }).collect(),
+            registers: vec![0; REGISTERS_BYTES],
             scratch: vec![0; COUNT * blocks],
         };
         let mut scene = Scene { lent, blocks };
@@ -263,7 +264,7 @@ const fn workload(name: &'static str, least: usize, make: fn(&mut Scene) -> Batc
 }
 
 /// Calls that hash nothing.
-pub static CALLS: [Workload; 50] = [
+pub static CALLS: [Workload; 53] = [
     workload("begin", 64, |_| accepted(Begin, vec![[FIRST, 0, 0, 0]; 64])),
     workload("begin with kinds", 64, |_| accepted(BeginKinds, vec![[FIRST]; 64])),
     workload("create L1, empty", 64, |_| accepted(CreateL1, vec![[L1_TABLE, 0, 0, 0]])),
@@ -445,6 +446,7 @@ pub static CALLS: [Workload; 50] = [
         scene.guest_pages(READ_EXECUTE);
         accepted(Fetch, guest_addresses())
     }),
+    workload("acknowledge", 64, |_| accepted(Acknowledge, vec![[0]; MANY as usize])),
     workload("forget, one block", 64, |scene| accepted(Forget, (0..MANY).map(|i| [scene.data(i), 1, 0, 0]).collect())),
     workload("forget, the whole region", 64, |scene| accepted(Forget, vec![[FIRST, scene.blocks as u32, 0, 0]; 64])),
     workload("map L2, refusal 2", 64, |scene| {
@@ -474,9 +476,17 @@ pub static CALLS: [Workload; 50] = [
         scene.guest_pages(READ_WRITE);
         refused(FreeL2, vec![[L2_BLOCK, 0, 0, 0]; MANY as usize], 6)
     }),
+    workload("read, refusal 22", 64, |scene| {
+        scene.guest_pages(READ_WRITE);
+        refused(Read, (0..MANY).map(|i| [(GUEST_PAGES + i % 64) * 4096 + i, 0]).collect(), 22)
+    }),
     workload("read, refusal 23", 64, |scene| {
         scene.guest_pages(0);
         refused(Read, guest_addresses(), 23)
+    }),
+    workload("write, refusal 23", 64, |scene| {
+        scene.guest_pages(READ_EXECUTE);
+        refused(Write, guest_addresses(), 23)
     }),
 ];
 
