@@ -16,21 +16,17 @@ use Rattle.rules.specs.General.{misaligned}
 use Rattle.rules.specs.Registers.{registersBytes, misfitRegisters}
 use Rattle.rules.specs.Guest.{Walk, stops, ends, walk, byteIndex, Access, reads, fetches, needed, walkRefusals, activeWalk, noActiveTable, written, unmarked, byteGiven, guestOutcome, walkLevel, registersAfter, guestRegisters}
 use Rattle.rules.proofs.State.{equal, fits-stored, within}
-use Rattle.guest.specs.Meaning.{Verdict, refused, stopped, allowed, arrived, judged, answerIn, byteIn, memoryIn, ledgerIn, registersIn}
+use Rattle.guest.specs.Meaning.{Verdict, refused, allowed, arrived, judged, answerIn, byteIn, memoryIn, ledgerIn, registersIn}
 use Rattle.guest.specs.Needs.{Region, InMemory, Recorded, Reportable}
 use Rattle.guest.proofs.Walking.{InRegion, walk-in-region}
 
 -- Which test decides
 
-pub judged-1 : (a : Access) (s : Store) (registers : List ℕ) (addr : ℕ) → misfitStored s ≡ true → refused 1 ≡ judged a s registers addr
+pub judged-1 : (a : Access) (s : Store) (addr : ℕ) → misfitStored s ≡ true → refused l1 1 ≡ judged a s addr
 unfolding judged
-judged-1 a s registers addr e = rw e
+judged-1 a s addr e = rw e
 
-pub judged-registers : (a : Access) (s : Store) (registers : List ℕ) (addr : ℕ) → misfitStored s ≡ false → misfitRegisters registers ≡ true → refused 1 ≡ judged a s registers addr
-unfolding judged
-judged-registers a s registers addr e f = rw (e, f)
-
--- where 1 does not apply to memory and ledger, by the words of the ledger that were read
+-- where 1 does not apply, by the words of the ledger that were read
 module _ (s : Store) {B n t : ℕ} (b : B ≡ base s) (m : n ≡ blocks s) (l : t ≡ active s) (fit : misfitStored s ≡ false) where
   abbrev noTable : Bool
   noTable = outside B n t (tableBlocks l1) || misaligned t (tableBlocks l1)
@@ -38,21 +34,19 @@ module _ (s : Store) {B n t : ℕ} (b : B ≡ base s) (m : n ≡ blocks s) (l : 
   no-table : noTable ≡ noActiveTable s
   no-table = rw (b, m, l)
 
+  pub judged-21 : (a : Access) (addr : ℕ) → noTable ≡ true → refused l1 21 ≡ judged a s addr
+  unfolding judged
+  judged-21 a addr e = rw (fit, sym no-table ∙ e)
+
   -- there is a table to walk from
   pub walkable : noTable ≡ false → Region (s .memory) B n × ((B ≤ t) × (t + tableBlocks l1 ≤ B + n))
   walkable e =
       let f = fits-stored s fit in
       (record { whole = omega arith; physical = omega arith }, within B n t (tableBlocks l1) (or-false-left (outside B n t (tableBlocks l1)) (misaligned t (tableBlocks l1)) e))
 
-  -- nor to the registers
-  module _ (registers : List ℕ) (fits : misfitRegisters registers ≡ false) (a : Access) (addr : ℕ) where
-    pub judged-21 : noTable ≡ true → refused 21 ≡ judged a s registers addr
-    unfolding judged
-    judged-21 e = rw (fit, fits, sym no-table ∙ e)
-
-    pub judged-walk : {r : Verdict} {w : Walk} → noTable ≡ false → w ≡ walk B n (s .memory) t addr → r ≡ arrived a B addr w → r ≡ judged a s registers addr
-    unfolding judged
-    judged-walk e q p = p ∙ rw (q, b, m, l, fit, fits, sym no-table ∙ e)
+  pub judged-walk : {r : Verdict} {w : Walk} (a : Access) (addr : ℕ) → noTable ≡ false → w ≡ walk B n (s .memory) t addr → r ≡ arrived a B addr w → r ≡ judged a s addr
+  unfolding judged
+  judged-walk a addr e q p = p ∙ rw (q, b, m, l, fit, sym no-table ∙ e)
 
 -- The byte
 
@@ -62,55 +56,58 @@ unfolding arrived byteIndex InRegion InMemory Recorded
 arrived-lies a memory ledger B n addr (stops v k) e f i = (tt, tt)
 arrived-lies a memory ledger B n addr (ends v p r) e f i = go (allows r (needed a)) where
   at : Bool → Verdict
-  at t = cond t (allowed (byteIndex B addr (ends v p r))) (stopped v 23)
+  at t = cond t (allowed (byteIndex B addr (ends v p r))) (refused v 23)
 
   go : (t : Bool) → InMemory memory (at t) × Recorded ledger (at t)
   go true = (omega arith, omega arith)
   go false = (tt, tt)
 
-pub byte-lies : (a : Access) (s : Store) (registers : List ℕ) (addr : ℕ) → InMemory (s .memory) (judged a s registers addr) × Recorded (s .ledger) (judged a s registers addr)
+pub byte-lies : (a : Access) (s : Store) (addr : ℕ) → InMemory (s .memory) (judged a s addr) × Recorded (s .ledger) (judged a s addr)
 unfolding InMemory Recorded judged
-byte-lies a s registers addr = go (misfitStored s) (misfitRegisters registers) (noActiveTable s) refl where
-  at : Bool → Bool → Bool → Verdict
-  at f g t = cond f (refused 1) (cond g (refused 1) (cond t (refused 21) (arrived a (base s) addr (activeWalk s addr))))
+byte-lies a s addr = go (misfitStored s) (noActiveTable s) refl where
+  at : Bool → Bool → Verdict
+  at f t = cond f (refused l1 1) (cond t (refused l1 21) (arrived a (base s) addr (activeWalk s addr)))
 
-  go : (f g t : Bool) → misfitStored s ≡ f → InMemory (s .memory) (at f g t) × Recorded (s .ledger) (at f g t)
-  go true g t e = (tt, tt)
-  go false true t e = (tt, tt)
-  go false false true e = (tt, tt)
-  go false false false e =
+  go : (f t : Bool) → misfitStored s ≡ f → InMemory (s .memory) (at f t) × Recorded (s .ledger) (at f t)
+  go true t e = (tt, tt)
+  go false true e = (tt, tt)
+  go false false e =
       let f = fits-stored s e in
       arrived-lies a (s .memory) (s .ledger) (base s) (blocks s) addr (activeWalk s addr) (f .memory-length) (f .ledger-length)
       (walk-in-region (base s) (blocks s) addr (s .memory) (active s))
 
 -- The registers
 
-pub reportable : (a : Access) (s : Store) (registers : List ℕ) (addr : ℕ) → Reportable registers (judged a s registers addr)
-unfolding Reportable judged
-reportable a s registers addr = go (misfitStored s) (misfitRegisters registers) (noActiveTable s) (arrived a (base s) addr (activeWalk s addr)) refl where
-  go : (f g t : Bool) (v : Verdict) → misfitRegisters registers ≡ g → Reportable registers (cond f (refused 1) (cond g (refused 1) (cond t (refused 21) v)))
-  go true g t v e = tt
-  go false true t v e = tt
-  go false false true v e = tt
-  go false false false (refused k) e = tt
-  go false false false (stopped l k) e = equal (length registers) registersBytes e
-  go false false false (allowed j) e = tt
+pub reportable : (registers : List ℕ) (v : Verdict) → misfitRegisters registers ≡ false → Reportable registers v
+unfolding Reportable
+reportable registers (refused l k) e = equal (length registers) registersBytes e
+reportable registers (allowed j) e = tt
+
+-- the verdict, whatever the registers
+unfoldable pub judgedLent : Access → Store → List ℕ → ℕ → Verdict
+judgedLent a s registers addr = cond (misfitRegisters registers) (refused l1 1) (judged a s addr)
+
+pub misfit-judged : (a : Access) (s : Store) (registers : List ℕ) (addr : ℕ) → misfitRegisters registers ≡ true → refused l1 1 ≡ judgedLent a s registers addr
+unfolding judgedLent
+misfit-judged a s registers addr e = rw e
+
+pub fits-judged : (a : Access) (s : Store) (registers : List ℕ) (addr : ℕ) {v : Verdict} → misfitRegisters registers ≡ false → v ≡ judged a s addr → v ≡ judgedLent a s registers addr
+unfolding judgedLent
+fits-judged a s registers addr e q = rw e q
 
 -- What follows from the rules' verdict
 
 -- a fetch gives what a read gives
 pub fetch-byte : (memory : List ℕ) (v : Verdict) → byteIn reads memory v ≡ byteIn fetches memory v
 unfolding byteIn byteGiven
-fetch-byte memory (refused k) = refl
-fetch-byte memory (stopped v k) = refl
+fetch-byte memory (refused v k) = refl
 fetch-byte memory (allowed j) = refl
 
 -- an access that stores nothing
 pub kept : (a : Access) (memory ledger : List ℕ) (v : Verdict) → ((j : ℕ) → (memory ≡ written a memory j) × (ledger ≡ unmarked a ledger j))
     → (memory ≡ memoryIn a memory v) × (ledger ≡ ledgerIn a ledger v)
 unfolding memoryIn ledgerIn
-kept a memory ledger (refused k) h = (refl, refl)
-kept a memory ledger (stopped v k) h = (refl, refl)
+kept a memory ledger (refused v k) h = (refl, refl)
 kept a memory ledger (allowed j) h = h j
 
 module _ (a : Access) (memory ledger registers : List ℕ) (addr : ℕ) where
@@ -131,26 +128,27 @@ module _ (a : Access) (memory ledger registers : List ℕ) (addr : ℕ) where
   arrived-said (stops v zero) i = let z : ⊥ = omega arith in absurd z
   arrived-said (stops v (suc k)) i = (refl, refl)
   arrived-said (ends v p r) i = go (allows r (needed a)) where
-    go : (t : Bool) → Said (settle (answerOf (23 if not t ∷ [])) s (accepted (ends v p r))) v (cond t (allowed (byteIndex (base s) addr (ends v p r))) (stopped v 23))
+    go : (t : Bool) → Said (settle (answerOf (23 if not t ∷ [])) s (accepted (ends v p r))) v (cond t (allowed (byteIndex (base s) addr (ends v p r))) (refused v 23))
     go true = (refl, refl)
     go false = (refl, refl)
 
-  judged-said : Said (guestOutcome a s registers addr) (walkLevel (activeWalk s addr)) (judged a s registers addr)
-  unfolding guestOutcome settle answerOf judged answerIn byteIn memoryIn ledgerIn registersIn registersAfter
+  judged-said : Said (guestOutcome a s registers addr) (walkLevel (activeWalk s addr)) (judgedLent a s registers addr)
+  unfolding guestOutcome settle answerOf judged judgedLent answerIn byteIn memoryIn ledgerIn registersIn registersAfter
   judged-said = go (misfitStored s) (misfitRegisters registers) (noActiveTable s) where
     w : Walk
     w = activeWalk s addr
 
-    go : (f g t : Bool) → Said (settle (answerOf (1 if f ∷ 1 if g ∷ 21 if t ∷ walkRefusals a w)) s (accepted w)) (walkLevel w) (cond f (refused 1) (cond g (refused 1) (cond t (refused 21) (arrived a (base s) addr w))))
-    go true g t = (refl, refl)
+    go : (f g t : Bool) → Said (settle (answerOf (1 if f ∷ 1 if g ∷ 21 if t ∷ walkRefusals a w)) s (accepted w)) (walkLevel w) (cond g (refused l1 1) (cond f (refused l1 1) (cond t (refused l1 21) (arrived a (base s) addr w))))
+    go true true t = (refl, refl)
+    go true false t = (refl, refl)
     go false true t = (refl, refl)
     go false false true = (refl, refl)
     go false false false = arrived-said w (walk-in-region (base s) (blocks s) addr memory (active s))
 
-  pub outcome-is : {v : Verdict} {r b : ℕ} {m l : List ℕ} → v ≡ judged a s registers addr → r ≡ answerIn v → b ≡ byteIn a memory v → (m ≡ memoryIn a memory v) × (l ≡ ledgerIn a ledger v)
+  pub outcome-is : {v : Verdict} {r b : ℕ} {m l : List ℕ} → v ≡ judgedLent a s registers addr → r ≡ answerIn v → b ≡ byteIn a memory v → (m ≡ memoryIn a memory v) × (l ≡ ledgerIn a ledger v)
       → (r ≡ guestOutcome a s registers addr .answer) × ((b ≡ guestOutcome a s registers addr .byte) × (lent m l ≡ guestOutcome a s registers addr .after))
   outcome-is e p q (t, u) = rw (judged-said .0, ← e, p, q, t, u) (refl, (refl, refl))
 
-  pub registers-are : {v : Verdict} → v ≡ judged a s registers addr → registersIn a registers addr v ≡ guestRegisters a s registers addr
+  pub registers-are : {v : Verdict} → v ≡ judgedLent a s registers addr → registersIn a registers addr v ≡ guestRegisters a s registers addr
   unfolding guestRegisters
   registers-are e = rw e (sym (judged-said .1))

@@ -46,10 +46,8 @@ enum Access {
 }
 
 enum Verdict {
-    // A refusal before the walk.
-    Refused(u32),
-    // A refusal along the walk, at an entry of a level.
-    Stopped { number: u32, level: Level },
+    // A refusal, and the level of the entry at which the walk stopped or ended; L1 where there was no walk.
+    Refused { number: u32, level: Level },
     // The place in memory of the byte to be read or stored.
     Allowed(usize),
 }
@@ -81,7 +79,7 @@ fn arrive(walk: Walk, access: Access, first: u32, address: u32) -> Verdict
     ensures { λ r. ⌜ verdictOf r ≡ arrived (accessOf access) first address (walkOf walk) ⌝ }
 {
     match walk {
-        Walk::Stops { number, level } => Verdict::Stopped { number, level },
+        Walk::Stops { number, level } => Verdict::Refused { number, level },
         Walk::Ends {
             block,
             rights,
@@ -92,7 +90,7 @@ fn arrive(walk: Walk, access: Access, first: u32, address: u32) -> Verdict
                     BLOCK_BYTES * (block - first) as usize + address as usize % BLOCK_BYTES,
                 );
             }
-            Verdict::Stopped {
+            Verdict::Refused {
                 number: RIGHT_LACKING,
                 level,
             }
@@ -100,20 +98,24 @@ fn arrive(walk: Walk, access: Access, first: u32, address: u32) -> Verdict
     }
 }
 
-fn judge(memory: &[u8], ledger: &[u8], registers: &[u8], access: Access, address: u32) -> Verdict
-    ensures { λ r. ⌜ verdictOf r ≡ judged (accessOf access) (lent (now (memory .entry)) (now (ledger .entry))) (now (registers .entry)) address ⌝ }
+// The verdict on an access that is lent registers of the right length.
+fn judge(memory: &[u8], ledger: &[u8], access: Access, address: u32) -> Verdict
+    ensures { λ r. ⌜ verdictOf r ≡ judged (accessOf access) (lent (now (memory .entry)) (now (ledger .entry))) address ⌝ }
 {
     if is_misfit_stored(memory, ledger) {
-        return Verdict::Refused(MISFIT);
-    }
-    if is_misfit_registers(registers) {
-        return Verdict::Refused(MISFIT);
+        return Verdict::Refused {
+            number: MISFIT,
+            level: Level::L1,
+        };
     }
     let first = base(ledger);
     let n = blocks(memory);
     let table = active(ledger);
     if is_no_table(first, n, table) {
-        return Verdict::Refused(NO_ACTIVE_TABLE);
+        return Verdict::Refused {
+            number: NO_ACTIVE_TABLE,
+            level: Level::L1,
+        };
     }
     arrive(
         walk_tables(memory, first, n, table, address),
@@ -146,8 +148,8 @@ fn write_bit(access: Access) -> u32
     }
 }
 
-// Tells of a fault of an access whose walk stopped or ended at an entry of a level; another refusal there is none (registers 6, registers 7).
-fn report_stop(registers: &mut [u8], access: Access, number: u32, level: Level, address: u32)
+// Tells of a refusal: 22 and 23 are faults, at the level of the walk's last entry, and any other number leaves the registers (registers 6, registers 7).
+fn report_refusal(registers: &mut [u8], access: Access, number: u32, level: Level, address: u32)
     requires { ⌜ length (now registers) ≡ registersBytes ⌝ }
     ensures { λ r. ⌜ now (registers .exit) ≡ registersAfter (accessOf access) (now (registers .entry)) address (levelOf level) number ⌝ }
 {
@@ -168,25 +170,25 @@ fn report(verdict: Verdict, registers: &mut [u8], access: Access, address: u32)
     ensures { λ r. ⌜ now (registers .exit) ≡ registersIn (accessOf access) (now (registers .entry)) address (verdictOf verdict) ⌝ }
 {
     match verdict {
-        Verdict::Refused(_) => {}
-        Verdict::Stopped { number, level } => {
-            report_stop(registers, access, number, level, address);
+        Verdict::Refused { number, level } => {
+            report_refusal(registers, access, number, level, address);
         }
         Verdict::Allowed(_) => {}
     }
 }
 
-// Gives the byte, or 0 with a refusal (calls 5, guest byte).
+// Gives the byte; with a refusal the 0 that stands in its place stays (calls 5, guest byte).
 fn give(verdict: Verdict, memory: &[u8], byte: &mut u8) -> u32
     requires { ⌜ InMemory (now memory) (verdictOf verdict) ⌝ }
+    requires { ⌜ now byte ≡ 0 ⌝ }
     ensures { λ r. ⌜ r ≡ answerIn (verdictOf verdict) ⌝ }
     ensures { λ r. ⌜ now (byte .exit) ≡ byteIn reads (now (memory .entry)) (verdictOf verdict) ⌝ }
 {
     match verdict {
-        Verdict::Refused(number) | Verdict::Stopped { number, level: _ } => {
-            *byte = 0;
-            number
-        }
+        Verdict::Refused {
+            number: refusal,
+            level: _,
+        } => refusal,
         Verdict::Allowed(at) => {
             *byte = memory[at];
             ACCEPTED
@@ -203,7 +205,7 @@ fn store(verdict: Verdict, memory: &mut [u8], ledger: &mut [u8], byte: u32) -> u
     ensures { λ r. ⌜ now (ledger .exit) ≡ ledgerIn (writes byte) (now (ledger .entry)) (verdictOf verdict) ⌝ }
 {
     match verdict {
-        Verdict::Refused(number) | Verdict::Stopped { number, level: _ } => number,
+        Verdict::Refused { number, level: _ } => number,
         Verdict::Allowed(at) => {
             memory[at] = (byte % 0x100) as u8;
             clear_mark(ledger, at / BLOCK_BYTES);
@@ -218,7 +220,11 @@ pub fn read(memory: &[u8], ledger: &[u8], registers: &mut [u8], address: u32, by
     ensures { λ r. ⌜ lent (now (memory .entry)) (now (ledger .entry)) ≡ guestOutcome reads (lent (now (memory .entry)) (now (ledger .entry))) (now (registers .entry)) address .after ⌝ }
     ensures { λ r. ⌜ now (registers .exit) ≡ guestRegisters reads (lent (now (memory .entry)) (now (ledger .entry))) (now (registers .entry)) address ⌝ }
 {
-    let verdict = judge(memory, ledger, registers, Access::Read, address);
+    *byte = 0;
+    if is_misfit_registers(registers) {
+        return MISFIT;
+    }
+    let verdict = judge(memory, ledger, Access::Read, address);
     report(verdict, registers, Access::Read, address);
     give(verdict, memory, byte)
 }
@@ -229,7 +235,11 @@ pub fn fetch(memory: &[u8], ledger: &[u8], registers: &mut [u8], address: u32, b
     ensures { λ r. ⌜ lent (now (memory .entry)) (now (ledger .entry)) ≡ guestOutcome fetches (lent (now (memory .entry)) (now (ledger .entry))) (now (registers .entry)) address .after ⌝ }
     ensures { λ r. ⌜ now (registers .exit) ≡ guestRegisters fetches (lent (now (memory .entry)) (now (ledger .entry))) (now (registers .entry)) address ⌝ }
 {
-    let verdict = judge(memory, ledger, registers, Access::Fetch, address);
+    *byte = 0;
+    if is_misfit_registers(registers) {
+        return MISFIT;
+    }
+    let verdict = judge(memory, ledger, Access::Fetch, address);
     report(verdict, registers, Access::Fetch, address);
     give(verdict, memory, byte)
 }
@@ -245,7 +255,10 @@ pub fn write(
     ensures { λ r. ⌜ lent (now (memory .exit)) (now (ledger .exit)) ≡ guestOutcome (writes byte) (lent (now (memory .entry)) (now (ledger .entry))) (now (registers .entry)) address .after ⌝ }
     ensures { λ r. ⌜ now (registers .exit) ≡ guestRegisters (writes byte) (lent (now (memory .entry)) (now (ledger .entry))) (now (registers .entry)) address ⌝ }
 {
-    let verdict = judge(memory, ledger, registers, Access::Write(byte), address);
+    if is_misfit_registers(registers) {
+        return MISFIT;
+    }
+    let verdict = judge(memory, ledger, Access::Write(byte), address);
     report(verdict, registers, Access::Write(byte), address);
     store(verdict, memory, ledger, byte)
 }

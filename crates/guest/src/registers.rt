@@ -4,7 +4,7 @@ use ledger::refusals::ACCEPTED;
 use ledger::refusals::MISFIT;
 use words::put_word;
 ghost use mathlib.Core.Path.{_≡_};
-ghost use Prim.Native.Nat.{_<_, _^_};
+ghost use Prim.Native.Nat.{_<_};
 ghost use lib.ListN.{length};
 ghost use Rattle.entries.specs.Meaning.{levelOf};
 ghost use Rattle.rules.specs.Registers.{acknowledgeOutcome, acknowledgeRegisters, addressPlace, faultCode, misfitRegisters, permission, putFault, registersBytes, statusPlace, statusWord, translation};

@@ -4,6 +4,7 @@ use crate::layout::KINDS_BYTES;
 use crate::layout::KINDS_PLACE;
 use crate::layout::LEDGER_HEAD_BYTES;
 use words::WORD_BYTES;
+ghost use mathlib.Core.Bool.{_||_};
 ghost use mathlib.Core.Path.{_≡_};
 ghost use Prim.Native.Nat.{_<_, _≤_};
 ghost use lib.ListN.{length};
@@ -20,17 +21,23 @@ fn is_unlawful_pair(w: u32) -> bool
     words::bits(w, 7, 9) != 0 || words::bits(w, 23, 9) != 0
 }
 
-// One of eight kinds is not lawful. They are looked at two at a time.
+fn either(a: bool, b: bool) -> bool
+    ensures { λ r. ⌜ r ≡ (a || b) ⌝ }
+{
+    a || b
+}
+
+// One of eight kinds is not lawful. All are looked at, two at a time: that takes one branch, and lawful kinds are what there is.
 pub fn some_unlawful(kinds: &[u8]) -> bool
     requires { ⌜ length (now kinds) ≡ kindsBytes ⌝ }
     ensures { λ r. ⌜ r ≡ unlawfulKinds (now (kinds .entry)) ⌝ }
 {
+    let mut found = false;
     for i in 0..KINDS_WORDS {
-        if is_unlawful_pair(words::word(kinds, WORD_BYTES * i)) {
-            return true;
-        }
+        let unlawful = is_unlawful_pair(words::word(kinds, WORD_BYTES * i));
+        found = either(found, unlawful);
     }
-    false
+    found
 }
 
 // One of the kinds that the ledger has is not.

@@ -1,18 +1,17 @@
 -- An acknowledge is lent neither memory nor ledger, so that whatever held of them still does.
-use mathlib.Core.Bool.{Bool}
 use mathlib.Core.List.{List}
 use mathlib.Core.Path.{_≡_, refl}
 use Prim.Native.Nat.{ℕ, zero, suc}
 use native.Mathlib.Omega.{arith}
 use Rattle.rules.specs.Refusals.{answerOf}
 use Rattle.rules.specs.Store.{Store}
-use Rattle.rules.specs.Outcomes.{Accepted, settle}
+use Rattle.rules.specs.Outcomes.{settle}
 use Rattle.rules.specs.Registers.{acknowledgeRefusals, acknowledgeAccepted, acknowledgeOutcome}
 use Rattle.rules.specs.Steps.{acknowledges, Told, afterAccepted}
 use Rattle.rules.specs.Box.{grantsWrite}
 use Rattle.rules.proofs.Refusals.{avoided}
 use Rattle.rules.proofs.Ledger.{marks-none}
-use Rattle.rules.proofs.State.{Running, Goes, grows-none, Next, next}
+use Rattle.rules.proofs.State.{Running, grows-none, Next, next}
 
 -- lists 16: whatever the registers
 pub acknowledge-after : (s : Store) (registers : List ℕ) → acknowledgeOutcome s registers .after ≡ s

@@ -16,7 +16,7 @@ use Rattle.rules.specs.Refusals.{Refusal, _if_, answerOf}
 use Rattle.rules.specs.Store.{Store, misfitStored}
 use Rattle.rules.specs.Outcomes.{settle}
 use Rattle.rules.specs.Registers.{registersBytes, Abort, dataAbort, prefetchAbort, statusPlace, addressPlace, pendingPlace, misfitRegisters, Fault, translation, permission, faultCode, statusWord, putFault, acknowledgeOutcome, acknowledgeRegisters}
-use Rattle.rules.specs.Guest.{Access, reads, fetches, writes, activeWalk, walkRefusals, noActiveTable, guestRefusals, guestAccepted, guestOutcome, raised, writeBit, walkLevel, faulted, registersAfter, guestRegisters}
+use Rattle.rules.specs.Guest.{Access, reads, fetches, writes, activeWalk, walkRefusals, noActiveTable, guestRefusals, guestAccepted, guestOutcome, raised, writeBit, walkLevel, registersAfter, guestRegisters}
 use Rattle.rules.proofs.State.{equal}
 use Rattle.rules.proofs.Passing.{settle-answer}
 

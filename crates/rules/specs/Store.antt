@@ -65,7 +65,7 @@ noTable = 0xFFFFFFFF
 abbrev pub counterLimit : ℕ
 counterLimit = 2 ^ 22
 
--- calls 1: the bytes of the two buffers that every call is lent
+-- calls 1: the bytes of the two buffers that every call but acknowledge is lent
 pub record Store : Type 0 where
   pub memory : List ℕ
   pub ledger : List ℕ

@@ -4,58 +4,50 @@ use borrow.Author.Needs.{needs}
 use Rattle.words.proofs.Bounded.{told}
 use Rattle.rules.proofs.State.{fits-stored}
 use Rattle.guest.proofs.Walking.{ends-from, walk-in-region}
-use Rattle.guest.proofs.Verdicts.{walkable, judged-1, judged-registers, judged-21, judged-walk}
+use Rattle.guest.proofs.Verdicts.{walkable, judged-1, judged-21, judged-walk}
 use Rattle.guest.proofs.access.judge.Statement.{statement}
 use Rattle.guest.proofs.access.judge.Tie as tie
 
 returns : tie.Need-returns
-returns c = judged-1 _ _ _ _ (told (c .before .is-misfit-stored .ensures) (c .if1 .taken))
-
-returns-2 : tie.Need-returns-2
-returns-2 c =
-    judged-registers _ _ _ _ (told (c .before .before .before .is-misfit-stored .ensures) (c .before .before .if1 .left)) (told (c .before .is-misfit-registers .ensures) (c .if2 .taken))
+returns c = judged-1 _ _ _ (told (c .before .is-misfit-stored .ensures) (c .if1 .taken))
 
 base-requires : tie.Need-base-requires
-base-requires c κs =
-    let fit = c .before .before in
-    let f = fits-stored _ (told (fit .before .is-misfit-stored .ensures) (fit .if1 .left)) in omega arith
+base-requires c κs = let f = fits-stored _ (told (c .before .is-misfit-stored .ensures) (c .if1 .left)) in omega arith
 
 active-requires : tie.Need-active-requires
 active-requires c κs =
-    let fit = c .before .before .before .before in
+    let fit = c .before .before in
     let f = fits-stored _ (told (fit .before .is-misfit-stored .ensures) (fit .if1 .left)) in omega arith
 
 is-no-table-requires : tie.Need-is-no-table-requires
 is-no-table-requires c κs =
-    let fit = c .before .before .before .before .before in
+    let fit = c .before .before .before in
     let f = fits-stored _ (told (fit .before .is-misfit-stored .ensures) (fit .if1 .left)) in omega arith
 
-returns-3 : tie.Need-returns-3
-returns-3 c =
+returns-2 : tie.Need-returns-2
+returns-2 c =
     let words = c .before .before in
-    let fits = words .before .before .before in
-    let fit = fits .before .before in
-    judged-21 _ (words .before .before .base .ensures) (words .before .blocks2 .ensures) (words .active .ensures) (told (fit .before .is-misfit-stored .ensures) (fit .if1 .left))
-    _ (told (fits .before .is-misfit-registers .ensures) (fits .if2 .left)) _ _ (told (c .before .is-no-table .ensures) (c .if3 .taken))
+    let fit = words .before .before .before in
+    judged-21 _ (words .before .before .base .ensures) (words .before .blocks2 .ensures) (words .active .ensures) (told (fit .before .is-misfit-stored .ensures) (fit .if1 .left)) _ _
+    (told (c .before .is-no-table .ensures) (c .if2 .taken))
 
 walk-tables-requires : tie.Need-walk-tables-requires
 walk-tables-requires c κs =
     let words = c .before .before in
-    let fit = words .before .before .before .before .before in
+    let fit = words .before .before .before in
     walkable _ (words .before .before .base .ensures) (words .before .blocks2 .ensures) (words .active .ensures) (told (fit .before .is-misfit-stored .ensures) (fit .if1 .left))
-    (told (c .before .is-no-table .ensures) (c .if3 .left))
+    (told (c .before .is-no-table .ensures) (c .if2 .left))
 
 arrive-requires : tie.Need-arrive-requires
 arrive-requires c κs = rw (c .walk-tables .ensures) (ends-from _ _ _ (walk-in-region _ _ _ _ _))
 
-returns-4 : tie.Need-returns-4
-returns-4 c =
+returns-3 : tie.Need-returns-3
+returns-3 c =
     let table = c .before .before in
     let words = table .before .before in
-    let fits = words .before .before .before in
-    let fit = fits .before .before in
-    judged-walk _ (words .before .before .base .ensures) (words .before .blocks2 .ensures) (words .active .ensures) (told (fit .before .is-misfit-stored .ensures) (fit .if1 .left))
-    _ (told (fits .before .is-misfit-registers .ensures) (fits .if2 .left)) _ _ (told (table .before .is-no-table .ensures) (table .if3 .left)) (c .before .walk-tables .ensures) (c .arrive .ensures)
+    let fit = words .before .before .before in
+    judged-walk _ (words .before .before .base .ensures) (words .before .blocks2 .ensures) (words .active .ensures) (told (fit .before .is-misfit-stored .ensures) (fit .if1 .left)) _ _
+    (told (table .before .is-no-table .ensures) (table .if2 .left)) (c .before .walk-tables .ensures) (c .arrive .ensures)
 
 pub judge-spec : {M : Type 1} → statement M
 judge-spec =
@@ -63,13 +55,11 @@ judge-spec =
     (tie.spec
     (search needs)
     returns
-    (search needs)
-    returns-2
     base-requires
     (search needs)
     active-requires
     is-no-table-requires
-    returns-3
+    returns-2
     walk-tables-requires
     arrive-requires
-    returns-4)
+    returns-3)
