@@ -1,11 +1,10 @@
 /*
  * A hypervisor that gives its guest the abort which the guest's kernel waits for where an access faults (docs/RULES.md, registers 6): it copies the
- * fault registers to the guest's own, takes the guest's processor to mode Abort, and acknowledges. The guest reads where nothing is mapped, writes to
+ * fault registers to those that it keeps for the guest, makes the mode that it keeps for it Abort, and acknowledges. The guest reads where nothing is mapped, writes to
  * a page that it may only read, and fetches from a page of data.
  */
 #include "pagemon.h"
 
-#include <stdbool.h>
 #include <stdio.h>
 #include <stdlib.h>
 
@@ -18,7 +17,7 @@ static uint8_t registers[PAGEMON_REGISTERS_BYTES]; /* of the one guest processor
 #define REGISTERS registers, sizeof registers
 #define NO_IMAGE NULL, 0
 
-/* What the hypervisor keeps of the guest's processor, as far as an abort alters it. */
+/* What the hypervisor keeps of the guest's processor, as far as an abort alters it. The processor itself stays in user mode for all of the guest. */
 struct guest {
     uint32_t pc, cpsr;               /* the address of the instruction that is being executed, and the state */
     uint32_t lr_abt, spsr_abt;       /* banked in mode Abort */
@@ -35,7 +34,7 @@ struct guest {
 enum { DATA_ABORT = 0x10, PREFETCH_ABORT = 0x0C };       /* vectors */
 enum { AFTER_DATA_ABORT = 8, AFTER_PREFETCH_ABORT = 4 }; /* from the instruction that faulted to lr_abt, in ARM and in Thumb state */
 
-/* Enters mode Abort as ARMv7 does with SCTLR.TE and EE 0. */
+/* Makes the mode that is kept for the guest Abort, as ARMv7 enters it with SCTLR.TE and EE 0. */
 static void enter_abort(struct guest *guest, uint32_t after, uint32_t vector)
 {
     guest->lr_abt = guest->pc + after;
@@ -61,7 +60,7 @@ static void inject_prefetch_abort(struct guest *guest)
 static int failures = 0;
 
 /* After an access. Only 22 and 23 are the guest's faults; with 1, 21 or 24 something is wrong in the hypervisor, and the guest does not run on. */
-static void settle(struct guest *guest, uint32_t answer, bool is_fetch)
+static void settle(struct guest *guest, uint32_t answer, void (*inject)(struct guest *guest))
 {
     uint8_t pending = 0;
     switch (answer) {
@@ -70,10 +69,7 @@ static void settle(struct guest *guest, uint32_t answer, bool is_fetch)
     case PAGEMON_RIGHT_LACKING: break;
     default: exit(1);
     }
-    if (is_fetch)
-        inject_prefetch_abort(guest);
-    else
-        inject_data_abort(guest);
+    inject(guest);
     failures += pagemon_acknowledge(REGISTERS, &pending) != PAGEMON_ACCEPTED || pending != 1 || registers[PAGEMON_PENDING] != 0;
 }
 
@@ -121,7 +117,7 @@ static void a_read(struct guest *guest)
     guest->pc = instruction, guest->cpsr = 0x60000010;
     puts("the guest reads where nothing is mapped");
     answer = pagemon_read(REGION, REGISTERS, 0x00007004, &byte);
-    settle(guest, answer, false);
+    settle(guest, answer, inject_data_abort);
     print_answer("read at 0x00007004", answer, PAGEMON_FAULT_ENTRY);
     print_fault("DFSR, DFAR", guest->dfsr, guest->dfar, PAGEMON_TRANSLATION_L2);
     print_state(guest);
@@ -129,7 +125,7 @@ static void a_read(struct guest *guest)
     return_from_abort(guest, AFTER_DATA_ABORT);
     failures += guest->pc != instruction || guest->cpsr != 0x60000010;
     answer = pagemon_read(REGION, REGISTERS, 0x00007004, &byte);
-    settle(guest, answer, false);
+    settle(guest, answer, inject_data_abort);
     print_answer("read at 0x00007004, again", answer, PAGEMON_ACCEPTED);
 }
 
@@ -139,7 +135,7 @@ static void a_write(struct guest *guest)
     guest->pc = 0x00001022, guest->cpsr = 0x6000E830;
     puts("the guest writes to a page that it may only read");
     uint32_t answer = pagemon_write(REGION, REGISTERS, 0x00005ABC, 'A');
-    settle(guest, answer, false);
+    settle(guest, answer, inject_data_abort);
     print_answer("write at 0x00005ABC", answer, PAGEMON_RIGHT_LACKING);
     print_fault("DFSR, DFAR", guest->dfsr, guest->dfar, PAGEMON_PERMISSION_L2);
     print_state(guest);
@@ -152,7 +148,7 @@ static void a_fetch(struct guest *guest)
     guest->pc = 0x00005000, guest->cpsr = 0x60000010;
     puts("the guest fetches from a page of data");
     uint32_t answer = pagemon_fetch(REGION, REGISTERS, guest->pc, &byte);
-    settle(guest, answer, true);
+    settle(guest, answer, inject_prefetch_abort);
     print_answer("fetch at 0x00005000", answer, PAGEMON_RIGHT_LACKING);
     print_fault("IFSR, IFAR", guest->ifsr, guest->ifar, PAGEMON_PERMISSION_L2);
     print_state(guest);

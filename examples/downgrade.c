@@ -52,18 +52,20 @@ static uint32_t remap(struct mapping *m, uint32_t rights)
 }
 
 /*
- * The guest faulted on a right that was held back: the mapping in the way is downgraded, and the right given. Where it is refused, both
- * mappings are again as they were.
+ * The guest faulted on a right that was held back: the mapping in the way is downgraded, and the right given. The fault is not the guest's own then:
+ * it is acknowledged, and no abort is injected. Where the right is refused, both mappings are again as they were.
  */
 static uint32_t resume(struct mapping *wanted, struct mapping *in_the_way)
 {
+    uint8_t pending = 0;
     uint32_t had = in_the_way->held;
     uint32_t answer = remap(in_the_way, PAGEMON_READ);
     if (answer != PAGEMON_ACCEPTED)
         return answer;
     answer = remap(wanted, wanted->asked);
-    if (answer != PAGEMON_ACCEPTED)
-        remap(in_the_way, had);
+    if (answer == PAGEMON_ACCEPTED)
+        return pagemon_acknowledge(REGISTERS, &pending);
+    remap(in_the_way, had);
     return answer;
 }
 

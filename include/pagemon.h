@@ -294,7 +294,7 @@ uint32_t pagemon_write(uint8_t *memory, size_t memory_length, uint8_t *ledger, s
 
 /*
  * Takes note of a fault: makes the pending byte 0. Refusal: 1. Every call sets `*pending`: the pending byte as it was, 1 after a fault, or 0 when
- * refused. `pending` does not point into the registers. DFSR, DFAR, IFSR and IFAR stay.
+ * refused. `pending` points neither into the registers nor into memory, ledger or golden. DFSR, DFAR, IFSR and IFAR stay.
  */
 uint32_t pagemon_acknowledge(uint8_t *registers, size_t registers_length, uint8_t *pending);
 

@@ -56,7 +56,7 @@ static void header(void)
     expect(PAGEMON_REGISTER(((const uint8_t[]){0, 0x78, 0x56, 0x34, 0xF2}), 1) == 0xF2345678, "a word", 0);
 }
 
-/* A section to read at L1 index 1, and in the L2 table at index 0 a page of each sort and a large page to read. */
+/* Sections to read at L1 index 1 and without rights at 3, and in the L2 table at index 0 a page of each sort and such large pages. */
 static void start(void)
 {
     uint32_t hashed = 0;
@@ -64,10 +64,12 @@ static void start(void)
                   && pagemon_create_l2(REGION, NO_IMAGE, PAGES, &hashed) == PAGEMON_ACCEPTED
                   && pagemon_link(REGION, TABLE, 0, PAGES, 0) == PAGEMON_ACCEPTED && pagemon_switch(REGION, TABLE) == PAGEMON_ACCEPTED
                   && pagemon_map_l1(REGION, NO_IMAGE, TABLE, 1, FIRST, READS, &hashed) == PAGEMON_ACCEPTED
+                  && pagemon_map_l1(REGION, NO_IMAGE, TABLE, 3, FIRST, NOTHING, &hashed) == PAGEMON_ACCEPTED
                   && pagemon_map_l2(REGION, NO_IMAGE, PAGES, 5, DATA, NOTHING, &hashed) == PAGEMON_ACCEPTED
                   && pagemon_map_l2(REGION, NO_IMAGE, PAGES, 6, DATA, READS, &hashed) == PAGEMON_ACCEPTED
                   && pagemon_map_l2(REGION, NO_IMAGE, PAGES, 7, DATA, WRITES, &hashed) == PAGEMON_ACCEPTED
-                  && pagemon_map_large(REGION, NO_IMAGE, PAGES, 16, LARGE, READS, &hashed) == PAGEMON_ACCEPTED;
+                  && pagemon_map_large(REGION, NO_IMAGE, PAGES, 16, LARGE, READS, &hashed) == PAGEMON_ACCEPTED
+                  && pagemon_map_large(REGION, NO_IMAGE, PAGES, 32, LARGE, NOTHING, &hashed) == PAGEMON_ACCEPTED;
     expect(set_up, "set up", 0);
 }
 
@@ -114,6 +116,7 @@ static const struct fault {
     {FETCH, 0xFFFFFFFF, PAGEMON_FAULT_ENTRY, PAGEMON_TRANSLATION_L1},   {READ, 0x00000000, PAGEMON_FAULT_ENTRY, PAGEMON_TRANSLATION_L2},
     {WRITE, 0x00008FFF, PAGEMON_FAULT_ENTRY, PAGEMON_TRANSLATION_L2},   {FETCH, 0x00000000, PAGEMON_FAULT_ENTRY, PAGEMON_TRANSLATION_L2},
     {WRITE, 0x00123456, PAGEMON_RIGHT_LACKING, PAGEMON_PERMISSION_L1},  {FETCH, 0x001FFFFF, PAGEMON_RIGHT_LACKING, PAGEMON_PERMISSION_L1},
+    {READ, 0x00345678, PAGEMON_RIGHT_LACKING, PAGEMON_PERMISSION_L1},   {READ, 0x00020004, PAGEMON_RIGHT_LACKING, PAGEMON_PERMISSION_L2},
     {READ, 0x00005ABC, PAGEMON_RIGHT_LACKING, PAGEMON_PERMISSION_L2},   {WRITE, 0x00006001, PAGEMON_RIGHT_LACKING, PAGEMON_PERMISSION_L2},
     {FETCH, 0x00007002, PAGEMON_RIGHT_LACKING, PAGEMON_PERMISSION_L2},  {WRITE, 0x00010000, PAGEMON_RIGHT_LACKING, PAGEMON_PERMISSION_L2},
     {FETCH, 0x0001FFFF, PAGEMON_RIGHT_LACKING, PAGEMON_PERMISSION_L2},

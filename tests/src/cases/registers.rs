@@ -236,6 +236,7 @@ fn sequence(comparer: &mut Comparer) -> Outcome {
     let mut scene = linked(16, 0);
     scene.put(8, 768 + 5, scene.mapping(10, PAGE_READ));
     scene.put(8, 768 + 6, scene.mapping(11, PAGE_WRITE));
+    // A call, its address, and its answer with the status that it tells; of an acknowledge the byte that it gives.
     let steps = [
         (Read, 0x0010_0123, 22, Some(0x005)),
         (Read, 0x0000_5000, 0, None),
@@ -255,14 +256,14 @@ fn sequence(comparer: &mut Comparer) -> Outcome {
     ];
     scene.store.registers = vec![0; REGISTERS_BYTES];
     let store = &mut scene.store;
-    for (number, (kind, address, answer, status)) in steps.into_iter().enumerate() {
+    for (number, (kind, address, answer_or_byte, status)) in steps.into_iter().enumerate() {
         let name = format!("a sequence, step {number}");
         let before = store.registers.clone();
         if kind == Acknowledge {
-            acknowledged(comparer, &name, store, answer as u8)?;
+            acknowledged(comparer, &name, store, answer_or_byte as u8)?;
         } else {
             let left = status.map_or(before.clone(), |status| told(kind, &before, status, address));
-            check(comparer, &name, call(kind, address), store, answer, &left)?;
+            check(comparer, &name, call(kind, address), store, answer_or_byte, &left)?;
         }
     }
     Ok(())
