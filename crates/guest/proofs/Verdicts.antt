@@ -16,13 +16,13 @@ use Rattle.rules.specs.General.{misaligned}
 use Rattle.rules.specs.Registers.{registersBytes, misfitRegisters}
 use Rattle.rules.specs.Guest.{Walk, stops, ends, walk, byteIndex, Access, reads, fetches, needed, walkRefusals, activeWalk, noActiveTable, written, unmarked, byteGiven, guestOutcome, walkLevel, registersAfter, guestRegisters}
 use Rattle.rules.proofs.State.{equal, fits-stored, within}
-use Rattle.guest.specs.Meaning.{Verdict, refused, allowed, arrived, judged, answerIn, byteIn, memoryIn, ledgerIn, registersIn}
+use Rattle.guest.specs.Meaning.{Verdict, refused, stopped, allowed, arrived, judged, answerIn, byteIn, memoryIn, ledgerIn, registersIn}
 use Rattle.guest.specs.Needs.{Region, InMemory, Recorded, Reportable}
 use Rattle.guest.proofs.Walking.{InRegion, walk-in-region}
 
 -- Which test decides
 
-pub judged-1 : (a : Access) (s : Store) (addr : ℕ) → misfitStored s ≡ true → refused l1 1 ≡ judged a s addr
+pub judged-1 : (a : Access) (s : Store) (addr : ℕ) → misfitStored s ≡ true → refused 1 ≡ judged a s addr
 unfolding judged
 judged-1 a s addr e = rw e
 
@@ -34,7 +34,7 @@ module _ (s : Store) {B n t : ℕ} (b : B ≡ base s) (m : n ≡ blocks s) (l : 
   no-table : noTable ≡ noActiveTable s
   no-table = rw (b, m, l)
 
-  pub judged-21 : (a : Access) (addr : ℕ) → noTable ≡ true → refused l1 21 ≡ judged a s addr
+  pub judged-21 : (a : Access) (addr : ℕ) → noTable ≡ true → refused 21 ≡ judged a s addr
   unfolding judged
   judged-21 a addr e = rw (fit, sym no-table ∙ e)
 
@@ -56,7 +56,7 @@ unfolding arrived byteIndex InRegion InMemory Recorded
 arrived-lies a memory ledger B n addr (stops v k) e f i = (tt, tt)
 arrived-lies a memory ledger B n addr (ends v p r) e f i = go (allows r (needed a)) where
   at : Bool → Verdict
-  at t = cond t (allowed (byteIndex B addr (ends v p r))) (refused v 23)
+  at t = cond t (allowed (byteIndex B addr (ends v p r))) (stopped v 23)
 
   go : (t : Bool) → InMemory memory (at t) × Recorded ledger (at t)
   go true = (omega arith, omega arith)
@@ -66,7 +66,7 @@ pub byte-lies : (a : Access) (s : Store) (addr : ℕ) → InMemory (s .memory) (
 unfolding InMemory Recorded judged
 byte-lies a s addr = go (misfitStored s) (noActiveTable s) refl where
   at : Bool → Bool → Verdict
-  at f t = cond f (refused l1 1) (cond t (refused l1 21) (arrived a (base s) addr (activeWalk s addr)))
+  at f t = cond f (refused 1) (cond t (refused 21) (arrived a (base s) addr (activeWalk s addr)))
 
   go : (f t : Bool) → misfitStored s ≡ f → InMemory (s .memory) (at f t) × Recorded (s .ledger) (at f t)
   go true t e = (tt, tt)
@@ -80,14 +80,15 @@ byte-lies a s addr = go (misfitStored s) (noActiveTable s) refl where
 
 pub reportable : (registers : List ℕ) (v : Verdict) → misfitRegisters registers ≡ false → Reportable registers v
 unfolding Reportable
-reportable registers (refused l k) e = equal (length registers) registersBytes e
+reportable registers (refused k) e = tt
+reportable registers (stopped l k) e = equal (length registers) registersBytes e
 reportable registers (allowed j) e = tt
 
 -- the verdict, whatever the registers
 unfoldable pub judgedLent : Access → Store → List ℕ → ℕ → Verdict
-judgedLent a s registers addr = cond (misfitRegisters registers) (refused l1 1) (judged a s addr)
+judgedLent a s registers addr = cond (misfitRegisters registers) (refused 1) (judged a s addr)
 
-pub misfit-judged : (a : Access) (s : Store) (registers : List ℕ) (addr : ℕ) → misfitRegisters registers ≡ true → refused l1 1 ≡ judgedLent a s registers addr
+pub misfit-judged : (a : Access) (s : Store) (registers : List ℕ) (addr : ℕ) → misfitRegisters registers ≡ true → refused 1 ≡ judgedLent a s registers addr
 unfolding judgedLent
 misfit-judged a s registers addr e = rw e
 
@@ -100,14 +101,16 @@ fits-judged a s registers addr e q = rw e q
 -- a fetch gives what a read gives
 pub fetch-byte : (memory : List ℕ) (v : Verdict) → byteIn reads memory v ≡ byteIn fetches memory v
 unfolding byteIn byteGiven
-fetch-byte memory (refused v k) = refl
+fetch-byte memory (refused k) = refl
+fetch-byte memory (stopped v k) = refl
 fetch-byte memory (allowed j) = refl
 
 -- an access that stores nothing
 pub kept : (a : Access) (memory ledger : List ℕ) (v : Verdict) → ((j : ℕ) → (memory ≡ written a memory j) × (ledger ≡ unmarked a ledger j))
     → (memory ≡ memoryIn a memory v) × (ledger ≡ ledgerIn a ledger v)
 unfolding memoryIn ledgerIn
-kept a memory ledger (refused v k) h = (refl, refl)
+kept a memory ledger (refused k) h = (refl, refl)
+kept a memory ledger (stopped v k) h = (refl, refl)
 kept a memory ledger (allowed j) h = h j
 
 module _ (a : Access) (memory ledger registers : List ℕ) (addr : ℕ) where
@@ -128,7 +131,7 @@ module _ (a : Access) (memory ledger registers : List ℕ) (addr : ℕ) where
   arrived-said (stops v zero) i = let z : ⊥ = omega arith in absurd z
   arrived-said (stops v (suc k)) i = (refl, refl)
   arrived-said (ends v p r) i = go (allows r (needed a)) where
-    go : (t : Bool) → Said (settle (answerOf (23 if not t ∷ [])) s (accepted (ends v p r))) v (cond t (allowed (byteIndex (base s) addr (ends v p r))) (refused v 23))
+    go : (t : Bool) → Said (settle (answerOf (23 if not t ∷ [])) s (accepted (ends v p r))) v (cond t (allowed (byteIndex (base s) addr (ends v p r))) (stopped v 23))
     go true = (refl, refl)
     go false = (refl, refl)
 
@@ -138,7 +141,7 @@ module _ (a : Access) (memory ledger registers : List ℕ) (addr : ℕ) where
     w : Walk
     w = activeWalk s addr
 
-    go : (f g t : Bool) → Said (settle (answerOf (1 if f ∷ 1 if g ∷ 21 if t ∷ walkRefusals a w)) s (accepted w)) (walkLevel w) (cond g (refused l1 1) (cond f (refused l1 1) (cond t (refused l1 21) (arrived a (base s) addr w))))
+    go : (f g t : Bool) → Said (settle (answerOf (1 if f ∷ 1 if g ∷ 21 if t ∷ walkRefusals a w)) s (accepted w)) (walkLevel w) (cond g (refused 1) (cond f (refused 1) (cond t (refused 21) (arrived a (base s) addr w))))
     go true true t = (refl, refl)
     go true false t = (refl, refl)
     go false true t = (refl, refl)

@@ -2,7 +2,7 @@
 use mathlib.Core.Bool.{cond}
 use mathlib.Core.List.{List}
 use Prim.Native.Nat.{ℕ}
-use Rattle.entries.specs.Entries.{Level, l1}
+use Rattle.entries.specs.Entries.{Level}
 use Rattle.entries.specs.Meaning.{levelOf}
 use Rattle.entries.specs.Rights.{allows}
 use Rattle.rules.specs.Store.{Store, base, misfitStored}
@@ -15,7 +15,7 @@ use Rattle.guest.specs.declared.registers.Abort.the-variants.{Data, Pref
 use Rattle.guest.specs.declared.access.Access as access
 use Rattle.guest.specs.declared.access.Access.the-variants.{Read, Fetch, Write}
 use Rattle.guest.specs.declared.access.Verdict as verdict
-use Rattle.guest.specs.declared.access.Verdict.the-variants.{Refused, Allowed}
+use Rattle.guest.specs.declared.access.Verdict.the-variants.{Refused, Stopped, Allowed}
 
 -- forms 9, guest walk: the walk that a value stands for
 abbrev pub walkOf : walk.Walk → Walk
@@ -33,50 +33,56 @@ accessOf Read = reads
 accessOf Fetch = fetches
 accessOf (Write v) = writes v
 
--- guest list, registers 2: a refusal's number, and the level of the entry at which the walk stops or ends (l1 where there was no walk); or the place of the byte
--- in the memory
+-- guest list, registers 2: a refusal before the walk, or at an entry of a level along it, by its number; or the place of the byte in the memory
 pub data Verdict : Type 0 where
-  refused : Level → ℕ → Verdict
+  refused : ℕ → Verdict
+  stopped : Level → ℕ → Verdict
   allowed : ℕ → Verdict
 
 -- forms 9: the verdict that a value stands for
 abbrev pub verdictOf : verdict.Verdict → Verdict
-verdictOf (Refused k v) = refused (levelOf v) k
+verdictOf (Refused k) = refused k
+verdictOf (Stopped k v) = stopped (levelOf v) k
 verdictOf (Allowed j) = allowed j
 
 -- guest 23, guest end: the verdict after a walk in a region from block B on; no meaning if it ends below B
 unfoldable pub arrived : Access → ℕ → ℕ → Walk → Verdict
-arrived a B addr (stops v k) = refused v k
-arrived a B addr (ends v p r) = cond (allows r (needed a)) (allowed (byteIndex B addr (ends v p r))) (refused v 23)
+arrived a B addr (stops v k) = stopped v k
+arrived a B addr (ends v p r) = cond (allows r (needed a)) (allowed (byteIndex B addr (ends v p r))) (stopped v 23)
 
 -- guest list: the verdict on an access that is lent registers of the right length
 unfoldable pub judged : Access → Store → ℕ → Verdict
 judged a s addr =
-    cond (misfitStored s) (refused l1 1)
-    (cond (noActiveTable s) (refused l1 21)
+    cond (misfitStored s) (refused 1)
+    (cond (noActiveTable s) (refused 21)
     (arrived a (base s) addr (activeWalk s addr)))
 
 -- calls 2: the answer of a verdict
 unfoldable pub answerIn : Verdict → ℕ
-answerIn (refused v k) = k
+answerIn (refused k) = k
+answerIn (stopped v k) = k
 answerIn (allowed j) = 0
 
 -- guest byte, calls 5: the byte that an access gives by its verdict
 unfoldable pub byteIn : Access → List ℕ → Verdict → ℕ
-byteIn a memory (refused v k) = 0
+byteIn a memory (refused k) = 0
+byteIn a memory (stopped v k) = 0
 byteIn a memory (allowed j) = byteGiven a memory j
 
 -- guest leaves, calls 3: the memory that an access leaves by its verdict
 unfoldable pub memoryIn : Access → List ℕ → Verdict → List ℕ
-memoryIn a memory (refused v k) = memory
+memoryIn a memory (refused k) = memory
+memoryIn a memory (stopped v k) = memory
 memoryIn a memory (allowed j) = written a memory j
 
 -- guest leaves, calls 3, ledger 10: the ledger that an access leaves by its verdict
 unfoldable pub ledgerIn : Access → List ℕ → Verdict → List ℕ
-ledgerIn a ledger (refused v k) = ledger
+ledgerIn a ledger (refused k) = ledger
+ledgerIn a ledger (stopped v k) = ledger
 ledgerIn a ledger (allowed j) = unmarked a ledger j
 
 -- registers 6, registers 7: the registers that an access leaves by its verdict
 unfoldable pub registersIn : Access → List ℕ → ℕ → Verdict → List ℕ
-registersIn a registers addr (refused v k) = registersAfter a registers addr v k
+registersIn a registers addr (refused k) = registers
+registersIn a registers addr (stopped v k) = registersAfter a registers addr v k
 registersIn a registers addr (allowed j) = registers

@@ -8,7 +8,7 @@ use Rattle.rules.specs.Store.{blockBytes, physicalBlocks}
 use Rattle.rules.specs.Registers.{registersBytes}
 use Rattle.rules.specs.Guest.{Walk, stops, ends, passes}
 use Rattle.ledger.specs.Needs.{InLedger}
-use Rattle.guest.specs.Meaning.{Verdict, refused, allowed}
+use Rattle.guest.specs.Meaning.{Verdict, refused, stopped, allowed}
 
 -- memory 1, memory 2: the memory is n blocks from physical block B on, as far as a walk relies on it
 pub record Region (memory : List ℕ) (B n : ℕ) : Type 0 where
@@ -31,15 +31,18 @@ EndsFrom B (ends v p r) = B ≤ p
 
 -- calls 1: the byte that a verdict allows lies in the memory
 unfoldable pub InMemory : List ℕ → Verdict → Type 0
-InMemory memory (refused v k) = Unit {0}
+InMemory memory (refused k) = Unit {0}
+InMemory memory (stopped v k) = Unit {0}
 InMemory memory (allowed j) = j < length memory
 
 -- calls 1: the ledger has the record of the block in which that byte lies
 unfoldable pub Recorded : List ℕ → Verdict → Type 0
-Recorded ledger (refused v k) = Unit {0}
+Recorded ledger (refused k) = Unit {0}
+Recorded ledger (stopped v k) = Unit {0}
 Recorded ledger (allowed j) = InLedger ledger (j / blockBytes + 1)
 
--- calls 1, registers 1: of a refusal registers of the right length can tell
+-- calls 1, registers 1: of a refusal along the walk registers of the right length can tell
 unfoldable pub Reportable : List ℕ → Verdict → Type 0
-Reportable registers (refused v k) = length registers ≡ registersBytes
+Reportable registers (refused k) = Unit {0}
+Reportable registers (stopped v k) = length registers ≡ registersBytes
 Reportable registers (allowed j) = Unit {0}

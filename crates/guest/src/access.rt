@@ -46,8 +46,10 @@ enum Access {
 }
 
 enum Verdict {
-    // A refusal, and the level of the entry at which the walk stopped or ended; L1 where there was no walk.
-    Refused { number: u32, level: Level },
+    // A refusal before the walk.
+    Refused(u32),
+    // A refusal along the walk, at an entry of a level.
+    Stopped { number: u32, level: Level },
     // The place in memory of the byte to be read or stored.
     Allowed(usize),
 }
@@ -79,7 +81,7 @@ fn arrive(walk: Walk, access: Access, first: u32, address: u32) -> Verdict
     ensures { λ r. ⌜ verdictOf r ≡ arrived (accessOf access) first address (walkOf walk) ⌝ }
 {
     match walk {
-        Walk::Stops { number, level } => Verdict::Refused { number, level },
+        Walk::Stops { number, level } => Verdict::Stopped { number, level },
         Walk::Ends {
             block,
             rights,
@@ -90,7 +92,7 @@ fn arrive(walk: Walk, access: Access, first: u32, address: u32) -> Verdict
                     BLOCK_BYTES * (block - first) as usize + address as usize % BLOCK_BYTES,
                 );
             }
-            Verdict::Refused {
+            Verdict::Stopped {
                 number: RIGHT_LACKING,
                 level,
             }
@@ -103,19 +105,13 @@ fn judge(memory: &[u8], ledger: &[u8], access: Access, address: u32) -> Verdict
     ensures { λ r. ⌜ verdictOf r ≡ judged (accessOf access) (lent (now (memory .entry)) (now (ledger .entry))) address ⌝ }
 {
     if is_misfit_stored(memory, ledger) {
-        return Verdict::Refused {
-            number: MISFIT,
-            level: Level::L1,
-        };
+        return Verdict::Refused(MISFIT);
     }
     let first = base(ledger);
     let n = blocks(memory);
     let table = active(ledger);
     if is_no_table(first, n, table) {
-        return Verdict::Refused {
-            number: NO_ACTIVE_TABLE,
-            level: Level::L1,
-        };
+        return Verdict::Refused(NO_ACTIVE_TABLE);
     }
     arrive(
         walk_tables(memory, first, n, table, address),
@@ -148,8 +144,8 @@ fn write_bit(access: Access) -> u32
     }
 }
 
-// Tells of a refusal: 22 and 23 are faults, at the level of the walk's last entry, and any other number leaves the registers (registers 6, registers 7).
-fn report_refusal(registers: &mut [u8], access: Access, number: u32, level: Level, address: u32)
+// Tells of a refusal at a walk's last entry: 22 and 23 are faults of its level, and any other number leaves the registers (registers 6, registers 7).
+fn report_stop(registers: &mut [u8], access: Access, number: u32, level: Level, address: u32)
     requires { ⌜ length (now registers) ≡ registersBytes ⌝ }
     ensures { λ r. ⌜ now (registers .exit) ≡ registersAfter (accessOf access) (now (registers .entry)) address (levelOf level) number ⌝ }
 {
@@ -170,8 +166,9 @@ fn report(verdict: Verdict, registers: &mut [u8], access: Access, address: u32)
     ensures { λ r. ⌜ now (registers .exit) ≡ registersIn (accessOf access) (now (registers .entry)) address (verdictOf verdict) ⌝ }
 {
     match verdict {
-        Verdict::Refused { number, level } => {
-            report_refusal(registers, access, number, level, address);
+        Verdict::Refused(_) => {}
+        Verdict::Stopped { number, level } => {
+            report_stop(registers, access, number, level, address);
         }
         Verdict::Allowed(_) => {}
     }
@@ -185,10 +182,7 @@ fn give(verdict: Verdict, memory: &[u8], byte: &mut u8) -> u32
     ensures { λ r. ⌜ now (byte .exit) ≡ byteIn reads (now (memory .entry)) (verdictOf verdict) ⌝ }
 {
     match verdict {
-        Verdict::Refused {
-            number: refusal,
-            level: _,
-        } => refusal,
+        Verdict::Stopped { number, level: _ } | Verdict::Refused(number) => number,
         Verdict::Allowed(at) => {
             *byte = memory[at];
             ACCEPTED
@@ -205,7 +199,7 @@ fn store(verdict: Verdict, memory: &mut [u8], ledger: &mut [u8], byte: u32) -> u
     ensures { λ r. ⌜ now (ledger .exit) ≡ ledgerIn (writes byte) (now (ledger .entry)) (verdictOf verdict) ⌝ }
 {
     match verdict {
-        Verdict::Refused { number, level: _ } => number,
+        Verdict::Refused(number) | Verdict::Stopped { number, level: _ } => number,
         Verdict::Allowed(at) => {
             memory[at] = (byte % 0x100) as u8;
             clear_mark(ledger, at / BLOCK_BYTES);

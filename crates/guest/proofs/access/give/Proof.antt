@@ -9,15 +9,19 @@ use Rattle.guest.proofs.access.give.Tie as tie
 
 shared-slice-read-byte : tie.Need-shared-slice-read-byte
 unfolding InMemory
-shared-slice-read-byte c = rw (c .before .before .verdict2 .given .1) at (c .before .before .before .before .pre .0)
+shared-slice-read-byte c = rw (c .before .before .verdict3 .given .1) at (c .before .before .before .before .pre .0)
 
 returns : tie.Need-returns
-unfolding answerIn byteIn
-returns c = rw (c .before .verdict .given .1) (refl, c .before .before .before .pre .1)
+unfolding answerIn byteIn byteGiven
+returns c = rw (c .before .before .verdict3 .given .1) (refl, refl)
 
 returns-2 : tie.Need-returns-2
-unfolding answerIn byteIn byteGiven
-returns-2 c = rw (c .before .before .verdict2 .given .1) (refl, refl)
+unfolding answerIn byteIn
+returns-2 c = rw (c .before .verdict .given .1) (refl, c .before .before .before .pre .1)
+
+returns-3 : tie.Need-returns-3
+unfolding answerIn byteIn
+returns-3 c = rw (c .before .verdict2 .given .1) (refl, c .before .before .before .pre .1)
 
 pub give-spec : {M : Type 1} → statement M
-give-spec = tie.close (tie.spec (search needs) (search needs) shared-slice-read-byte returns returns-2)
+give-spec = tie.close (tie.spec (search needs) (search needs) (search needs) shared-slice-read-byte returns returns-2 returns-3)

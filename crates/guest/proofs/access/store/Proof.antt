@@ -9,19 +9,23 @@ use Rattle.guest.proofs.access.store.Tie as tie
 
 slice-write-memory : tie.Need-slice-write-memory
 unfolding InMemory
-slice-write-memory c = rw (c .before .verdict2 .given .1) at (c .before .before .before .before .before .pre .0)
+slice-write-memory c = rw (c .before .verdict3 .given .1) at (c .before .before .before .before .before .pre .0)
 
 clear-mark-requires : tie.Need-clear-mark-requires
 unfolding Recorded
-clear-mark-requires c κs = rw (c .before .before .verdict2 .given .1) at (c .before .before .before .before .before .before .pre .1)
+clear-mark-requires c κs = rw (c .before .before .verdict3 .given .1) at (c .before .before .before .before .before .before .pre .1)
 
 returns : tie.Need-returns
-unfolding answerIn memoryIn ledgerIn
-returns c = rw (c .before .verdict .given .1) (refl, (refl, refl))
+unfolding answerIn memoryIn ledgerIn written unmarked
+returns c = rw (c .before .before .before .before .before .verdict3 .given .1) (refl, (refl, c .before .before .clear-mark .ensures))
 
 returns-2 : tie.Need-returns-2
-unfolding answerIn memoryIn ledgerIn written unmarked
-returns-2 c = rw (c .before .before .before .before .before .verdict2 .given .1) (refl, (refl, c .before .before .clear-mark .ensures))
+unfolding answerIn memoryIn ledgerIn
+returns-2 c = rw (c .before .verdict .given .1) (refl, (refl, refl))
+
+returns-3 : tie.Need-returns-3
+unfolding answerIn memoryIn ledgerIn
+returns-3 c = rw (c .before .verdict2 .given .1) (refl, (refl, refl))
 
 pub store-spec : {M : Type 1} → statement M
 store-spec =
@@ -30,9 +34,11 @@ store-spec =
     (search needs)
     (search needs)
     (search needs)
+    (search needs)
     slice-write-memory
     clear-mark-requires
+    (search needs)
+    (search needs)
     returns
-    (search needs)
-    (search needs)
-    returns-2)
+    returns-2
+    returns-3)

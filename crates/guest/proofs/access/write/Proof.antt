@@ -2,14 +2,14 @@
 use mathlib.Core.Path.{refl, _∙_}
 use borrow.Author.Needs.{needs}
 use Rattle.words.proofs.Bounded.{told}
-use Rattle.rules.specs.Guest.{writes, registersAfter}
+use Rattle.rules.specs.Guest.{writes}
 use Rattle.guest.specs.Meaning.{answerIn, byteIn, memoryIn, ledgerIn, registersIn}
 use Rattle.guest.proofs.Verdicts.{byte-lies, reportable, misfit-judged, fits-judged, outcome-is, registers-are}
 use Rattle.guest.proofs.access.write.Statement.{statement}
 use Rattle.guest.proofs.access.write.Tie as tie
 
 returns : tie.Need-returns
-unfolding answerIn byteIn memoryIn ledgerIn registersIn registersAfter
+unfolding answerIn byteIn memoryIn ledgerIn registersIn
 returns c =
     let judged = misfit-judged _ _ _ _ (told (c .before .is-misfit-registers .ensures) (c .if1 .taken)) in
     let (answer, (_, after)) = outcome-is (writes _) _ _ _ _ judged refl refl (refl, refl) in

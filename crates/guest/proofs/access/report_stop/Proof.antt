@@ -1,9 +1,9 @@
--- Of the refusals 22 and 23 are faults, each with the code of its level.
+-- Of the refusals at an entry, 22 and 23 are faults, each with the code of its level.
 use borrow.Author.Needs.{needs}
 use borrow.Author.Tests.{ne-eqb}
 use Rattle.rules.specs.Guest.{registersAfter}
-use Rattle.guest.proofs.access.report_refusal.Statement.{statement}
-use Rattle.guest.proofs.access.report_refusal.Tie as tie
+use Rattle.guest.proofs.access.report_stop.Statement.{statement}
+use Rattle.guest.proofs.access.report_stop.Tie as tie
 
 returns : tie.Need-returns
 unfolding registersAfter
@@ -25,8 +25,8 @@ returns-3 : tie.Need-returns-3
 unfolding registersAfter
 returns-3 c = rw (ne-eqb _ 22 (c .before .if1 .left), ne-eqb _ 23 (c .if2 .left))
 
-pub report-refusal-spec : {M : Type 1} → statement M
-report-refusal-spec =
+pub report-stop-spec : {M : Type 1} → statement M
+report-stop-spec =
     tie.close
     (tie.spec
     (search needs)
