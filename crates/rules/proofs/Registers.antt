@@ -28,21 +28,15 @@ pub statuses-are : (statuses 0 ≡ (0x005 ∷ 0x007 ∷ 0x00D ∷ 0x00F ∷ []))
 unfolding statusWord
 statuses-are = (refl, refl)
 
--- they are words, whatever the access
-status-fits : (a : Access) (f : Fault) → statusWord (faultCode f) (writeBit a) < 2 ^ 32
+-- a status is a word, whatever the code
+status-fits : (code write : ℕ) → write < 2 → statusWord code write < 2 ^ 32
 unfolding statusWord
-status-fits reads (translation l1) = omega arith
-status-fits reads (translation l2) = omega arith
-status-fits reads (permission l1) = omega arith
-status-fits reads (permission l2) = omega arith
-status-fits fetches (translation l1) = omega arith
-status-fits fetches (translation l2) = omega arith
-status-fits fetches (permission l1) = omega arith
-status-fits fetches (permission l2) = omega arith
-status-fits (writes v) (translation l1) = omega arith
-status-fits (writes v) (translation l2) = omega arith
-status-fits (writes v) (permission l1) = omega arith
-status-fits (writes v) (permission l2) = omega arith
+status-fits code write bit = omega arith
+
+write-bit : (a : Access) → writeBit a < 2
+write-bit reads = omega arith
+write-bit fetches = omega arith
+write-bit (writes v) = omega arith
 
 -- registers 6: after is registers with this status and address of an abort, pending, and no other byte changed
 pub record Tells (registers after : List ℕ) (abort : Abort) (status addr : ℕ) : Type 0 where
@@ -110,11 +104,11 @@ module _ (a : Access) (s : Store) (registers : List ℕ) (addr : ℕ) where
 
   pub translation-told : addr < 2 ^ 32 → answer ≡ 22 → ToldOf (translation at)
   unfolding guestRegisters registersAfter
-  translation-told narrow e = rw e (fault-told registers (raised a) _ addr (judged-registers (λ z. omega arith)) (status-fits a (translation at)) narrow)
+  translation-told narrow e = rw e (fault-told registers (raised a) _ addr (judged-registers (λ z. omega arith)) (status-fits _ _ (write-bit a)) narrow)
 
   pub permission-told : addr < 2 ^ 32 → answer ≡ 23 → ToldOf (permission at)
   unfolding guestRegisters registersAfter
-  permission-told narrow e = rw e (fault-told registers (raised a) _ addr (judged-registers (λ z. omega arith)) (status-fits a (permission at)) narrow)
+  permission-told narrow e = rw e (fault-told registers (raised a) _ addr (judged-registers (λ z. omega arith)) (status-fits _ _ (write-bit a)) narrow)
 
 -- An acknowledge
 

@@ -1,10 +1,10 @@
 -- The invariant: whether a kind of the words passed is not lawful.
-use mathlib.Core.Path.{_≡_, refl, sym, _∙_}
-use mathlib.Core.Bool.{Bool, _||_}
-use Prim.Native.Nat.{ℕ, suc, _+_, _-_, _*_, _≤_}
+use mathlib.Core.Path.{_≡_, refl, _∙_}
+use Prim.Native.Nat.{_-_, _*_, _≤_}
 use native.Mathlib.Omega.{arith}
 use Rattle.words.specs.Bounded.{any}
 use Rattle.words.specs.Words.{word}
+use Rattle.words.proofs.Bounded.{flag-next}
 use Rattle.words.proofs.Words.{Bytes}
 use Rattle.ledger.specs.Pieces.{unlawfulPair}
 use Rattle.ledger.proofs.MemoryKinds.{unlawful-pairs}
@@ -21,14 +21,10 @@ loop-holds : tie.Need-loop-holds Inv-loop μ-loop
 unfolding any
 loop-holds c = (omega arith, refl)
 
-one-more : (p : ℕ → Bool) (n : ℕ) → (any n p || p n) ≡ any (n + 1) p
-unfolding any
-one-more p n = let next : n + 1 ≡ suc n = omega arith in rw next refl
-
 loop-again : tie.Need-loop-again Inv-loop μ-loop
 loop-again c =
     let loop = c .before .before .before .before .loop in
-    (omega arith, c .either .ensures ∙ rw (loop .inv .1, c .before .is-unlawful-pair .ensures, c .before .before .word .ensures) (one-more _ _))
+    (omega arith, flag-next _ _ (loop .inv .1) (c .either .ensures ∙ rw (c .before .is-unlawful-pair .ensures, c .before .before .word .ensures)))
 
 returns : tie.Need-returns Inv-loop μ-loop
 returns c =
