@@ -1,5 +1,6 @@
 // The calls, exported to C (calls 1, forms 7). Their contracts ask nothing of the caller, and equate the answer, the byte or the number that
 // is given, and all of memory, ledger and fault registers with the rules (promises 1).
+#![tactic(auto)]
 ghost use Rattle.std.specs.Prelude.{◌≡◌};
 ghost use Rattle.rules.specs.Begin.{begin_outcome, cached_kinds};
 ghost use Rattle.entries.specs.Entries.{l1, l2};

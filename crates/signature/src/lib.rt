@@ -1,4 +1,6 @@
 // The signature of a block in its place: SHA-256 (FIPS 180-4), and the search of a golden image.
+#![tactic(auto)]
+
 mod bytes;
 mod compress;
 mod constants;

@@ -1,4 +1,5 @@
 // Lists of steps: records of calls, obeyed one after the other by the monitor's exported calls (RULES: runner).
+#![tactic(auto)]
 ghost use Rattle.std.specs.Prelude.{◌≡◌, length, take};
 ghost use Rattle.words.specs.Lists.{put_list};
 ghost use Rattle.rules.specs.Store.{lent};

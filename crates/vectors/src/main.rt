@@ -1,4 +1,5 @@
 // FIPS 180-4's published example messages, blocks in their places, and searches of golden images. What is printed is compared with stored output.
+#![tactic(auto)]
 ghost use Rattle.std.specs.Prelude.{◌<◌, ◌≤◌, length};
 
 use libc::STDOUT_FILENO;

@@ -1,4 +1,6 @@
 // Words of 32 bits and numbers of 16 in lent bytes, and the mathematics of lists and bounded sums under all layers.
+#![tactic(auto)]
+
 ghost use Rattle.std.specs.Prelude.{◌≡◌, ◌+◌, ◌*◌, ◌^◌, ◌<◌, ◌≤◌, length};
 ghost use Rattle.words.specs.Bounded.{among};
 ghost use Rattle.words.specs.Lists.{put_list};

@@ -1,0 +1,12 @@
+-- The invariant: the array is filled with the first i bytes of the padded message from a on.
+use Rattle.std.proofs.Common.{◌+◌, ◌-◌, ◌++◌, get_or}
+use Rattle.words.specs.Lists.{tabulate}
+use Rattle.words.proofs.Lists.{Filling}
+use Rattle.signature.specs.Sha256.{padded}
+use Rattle.signature.proofs.padding.padded_block.Given as goal
+
+abbrev pub invariant-loop-i : goal.invariant-loop-i
+invariant-loop-i l = Filling (tabulate (λ j. get_or (padded (l.head ++ l.body)) (l.a + j) 0)) 64 l.b l.i
+
+abbrev pub decreases-loop-i : goal.decreases-loop-i
+decreases-loop-i l = 64 - l.i
