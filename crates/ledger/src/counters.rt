@@ -16,13 +16,13 @@ use entries::entry::Entry;
 use entries::rights::{Right, allows};
 
 // An entry is added to the counters, or taken away from them.
-#[derive(Drop)]
+#[derive(Clone, Copy)]
 pub enum Change {
     Added,
     Removed,
 }
 
-#[derive(Drop)]
+#[derive(Clone, Copy)]
 pub enum Counter {
     Writable,
     Executable,
