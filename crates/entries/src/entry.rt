@@ -4,13 +4,13 @@ ghost use Rattle.entries.specs.Entries.{cover_blocks, cover_first, is_fault, is_
 ghost use Rattle.entries.specs.Meaning.{meaning};
 
 // What the guest may do in a section or a page, and its first block; for an entry of a large page, its own one of the sixteen blocks.
-#[derive(Drop)]
+#[derive(Clone, Copy)]
 pub struct Mapping {
     pub first: u32,
     pub rights: u32,
 }
 
-#[derive(Drop)]
+#[derive(Clone, Copy)]
 pub enum Entry {
     Fault,
     // Not accepted.
@@ -23,7 +23,7 @@ pub enum Entry {
 }
 
 // The level of a table.
-#[derive(Drop)]
+#[derive(Clone, Copy)]
 pub enum Level {
     L1,
     L2,
@@ -38,6 +38,7 @@ pub const LARGE_BLOCKS: u32 = 16;
 // The words of a run, one for each block of a large page (entries 21).
 pub const RUN_WORDS: u32 = 16;
 
+#[tactic(auto, unfolding(crate::specs::Entries::is_fault))]
 pub fn is_fault(e: Entry) -> bool
     ensures { result ≡ is_fault (meaning e) }
 {
@@ -51,6 +52,7 @@ pub fn is_fault(e: Entry) -> bool
     }
 }
 
+#[tactic(auto, unfolding(crate::specs::Entries::is_unaccepted))]
 pub fn is_unaccepted(e: Entry) -> bool
     ensures { result ≡ is_unaccepted (meaning e) }
 {
@@ -64,6 +66,7 @@ pub fn is_unaccepted(e: Entry) -> bool
     }
 }
 
+#[tactic(auto, unfolding(crate::specs::Entries::is_link))]
 pub fn is_link(e: Entry) -> bool
     ensures { result ≡ is_link (meaning e) }
 {
@@ -77,6 +80,7 @@ pub fn is_link(e: Entry) -> bool
     }
 }
 
+#[tactic(auto, unfolding(crate::specs::Entries::is_section))]
 pub fn is_section(e: Entry) -> bool
     ensures { result ≡ is_section (meaning e) }
 {
@@ -90,6 +94,7 @@ pub fn is_section(e: Entry) -> bool
     }
 }
 
+#[tactic(auto, unfolding(crate::specs::Entries::is_page))]
 pub fn is_page(e: Entry) -> bool
     ensures { result ≡ is_page (meaning e) }
 {
@@ -103,6 +108,7 @@ pub fn is_page(e: Entry) -> bool
     }
 }
 
+#[tactic(auto, unfolding(crate::specs::Entries::is_large))]
 pub fn is_large(e: Entry) -> bool
     ensures { result ≡ is_large (meaning e) }
 {
@@ -116,6 +122,7 @@ pub fn is_large(e: Entry) -> bool
     }
 }
 
+#[tactic(auto, unfolding(crate::specs::Entries::rights))]
 pub fn rights(e: Entry) -> u32
     ensures { result ≡ rights (meaning e) }
 {
@@ -130,6 +137,7 @@ pub fn rights(e: Entry) -> u32
 }
 
 // The first block of the entry's place (entries 17).
+#[tactic(auto, unfolding(crate::specs::Entries::place_first))]
 pub fn place_first(e: Entry) -> u32
     ensures { result ≡ place_first (meaning e) }
 {
@@ -144,6 +152,7 @@ pub fn place_first(e: Entry) -> u32
 }
 
 // The number of blocks of the entry's place.
+#[tactic(auto, unfolding(crate::specs::Entries::place_blocks))]
 pub fn place_blocks(e: Entry) -> u32
     ensures { result ≡ place_blocks (meaning e) }
 {
@@ -158,6 +167,7 @@ pub fn place_blocks(e: Entry) -> u32
 }
 
 // The first of the blocks on which the entry counts (entries 18): as of its place, but for a large page.
+#[tactic(auto, unfolding(crate::specs::Entries::cover_first))]
 pub fn cover_first(e: Entry) -> u32
     ensures { result ≡ cover_first (meaning e) }
 {
@@ -172,6 +182,7 @@ pub fn cover_first(e: Entry) -> u32
 }
 
 // The number of these blocks.
+#[tactic(auto, unfolding(crate::specs::Entries::cover_blocks))]
 pub fn cover_blocks(e: Entry) -> u32
     ensures { result ≡ cover_blocks (meaning e) }
 {

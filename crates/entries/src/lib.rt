@@ -1,5 +1,6 @@
 // What a word of a page table means, and what word is written.
 #![tactic(auto)]
+
 pub mod entry; // entry.rt: the cases of an entry, and what each gives
 pub mod rights; // rights.rt: what rights allow, and the access bits that give them
 pub mod table; // table.rt: the rights of a page by the low bits of its word

@@ -4,7 +4,7 @@ ghost use Rattle.words.specs.Bounded.{num};
 ghost use Rattle.entries.specs.Meaning.{right_of};
 ghost use Rattle.entries.specs.Rights.{allows, may_execute, may_read, may_write, rights_of, unlawful_rights};
 
-#[derive(Drop)]
+#[derive(Clone, Copy)]
 pub enum Right {
     Read,
     Write,
@@ -48,6 +48,7 @@ pub fn are_unlawful(rights: u32) -> bool
 }
 
 // Access bits that give read (entries 10).
+#[tactic(auto, unfolding(crate::specs::Rights::may_read))]
 fn may_read(ap: u32) -> bool
     ensures { result ≡ may_read ap }
 {

@@ -23,7 +23,7 @@ use ledger::refusals::{ACCEPTED, FAULT_ENTRY, MISFIT, NO_ACTIVE_TABLE, RIGHT_LAC
 use ledger::region::{blocks, is_misfit_stored, is_outside};
 use ledger::table::L1_BLOCKS;
 
-#[derive(Drop)]
+#[derive(Clone, Copy)]
 enum Access {
     Read,
     Fetch,
@@ -31,7 +31,7 @@ enum Access {
     Write(u32),
 }
 
-#[derive(Drop)]
+#[derive(Clone, Copy)]
 enum Verdict {
     // A refusal before the walk.
     Refused(u32),

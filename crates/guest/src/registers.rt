@@ -22,7 +22,7 @@ const IFAR: usize = 12;
 const PENDING: usize = 16;
 
 // What a fault becomes: of a read or a write a data abort, of a fetch a prefetch abort.
-#[derive(Drop)]
+#[derive(Clone, Copy)]
 pub enum Abort {
     Data,
     Prefetch,

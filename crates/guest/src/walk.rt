@@ -19,7 +19,7 @@ const L2_WORDS: usize = 256;
 
 // At an entry of a level a walk stops with a number, or ends in a block with the entry's rights. The level stands last: with it first the compiler keeps
 // a walk in memory, not in registers.
-#[derive(Drop)]
+#[derive(Clone, Copy)]
 pub enum Walk {
     Stops {
         number: u32,

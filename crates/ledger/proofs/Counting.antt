@@ -280,7 +280,7 @@ module _ (d : Change) (s : Store) (length_is : length s.ledger ≡ ledger_head_b
     heads = λ a h. head_changed_counter d led c e p m a h ∙ r.heads a h;
     types = λ b. other_changed_counter d led c e p m type_word b (omega arith) (λ q. counter_not_type c (sym q)) ∙ r.types b;
     marks = λ b. other_changed_counter d led c e p m mark_word b (omega arith) (λ q. counter_not_mark c (sym q)) ∙ r.marks b;
-    all_bytes = bytes_changed_counter d led c e p m r.all-bytes;
+    all_bytes = bytes_changed_counter d led c e p m r.all_bytes;
   }
 
   module _ (recorded-all : GrantsRecorded s.ledger e p m) (countable : (c : Counter) → Countable d s.ledger c e p m) where
@@ -330,7 +330,7 @@ module _ (d : Change) (s : Store) (length_is : length s.ledger ≡ ledger_head_b
       made : {led : List ℕ} (c : Counter) → Reached led → Keeps c led → (b : ℕ) → b < blocks s → record_word (changed_counter d led c e p m) (counter_word c) b ≡ end d s n x c b
       made {led} c r same b l =
           let (q, t) = ready c r same in
-          rw (same b, r.heads base_place (omega arith)) at (own_changed_counter d led c e p m spreads (blocks s) b r.all-bytes (r.lengths ∙ length_is) q t l)
+          rw (same b, r.heads base_place (omega arith)) at (own_changed_counter d led c e p m spreads (blocks s) b r.all_bytes (r.lengths ∙ length_is) q t l)
 
       ends : (c : Counter) (b : ℕ) → b < blocks s → record_word led3 (counter_word c) b ≡ end d s n x c b
       ends writable b l = passes led2 writable linked (λ q. omega arith) b ∙ passes led1 writable executable (λ q. omega arith) b ∙ made writable reached0 (λ b. refl) b l
@@ -338,14 +338,14 @@ module _ (d : Change) (s : Store) (length_is : length s.ledger ≡ ledger_head_b
       ends linked b l = made linked reached2 keeps2 b l
 
       end_bound : (c : Counter) (b : ℕ) → b < blocks s → end d s n x c b < 2 ^ 32
-      end_bound c b l = rw (← ends c b l) (record_word_bound led3 (counter_word c) b (reach linked reached2).all-bytes)
+      end_bound c b l = rw (← ends c b l) (record_word_bound led3 (counter_word c) b (reach linked reached2).all_bytes)
 
       -- changing the counters one after the other recounts the ledger with the entries
       changed-recounted : led3 ≡ recounted d s n x
       changed-recounted =
           let r = reach linked reached2 in
           ledger_ext led3 (recounted d s n x) (blocks s) (r.lengths ∙ length_is) (length-recounted d s n x ∙ length_is)
-          r.all-bytes (bytes_recount s.ledger (blocks s) (end d s n x) bytes)
+          r.all_bytes (bytes_recount s.ledger (blocks s) (end d s n x) bytes)
           (λ a h. r.heads a h ∙ sym (head_recounted d s n x a h))
           (λ b l. r.types b ∙ sym (type_recounted d s n x b))
           (λ c b l. ends c b l ∙ sym (counter-recounted d s n x length_is c b l (end_bound c b l)))

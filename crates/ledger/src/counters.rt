@@ -4,7 +4,7 @@ ghost use Rattle.words.specs.Bounded.{Small};
 ghost use Rattle.entries.specs.Entries as specified;
 ghost use Rattle.entries.specs.Meaning.{meaning};
 ghost use Rattle.rules.specs.Store as store;
-ghost use Rattle.rules.specs.Store.{base as storedBase, blocks, counter_word, lent, put_record_word, record_word, record_words, some_counter};
+ghost use Rattle.rules.specs.Store.{base as stored_base, blocks, counter_word, lent, put_record_word, record_word, record_words, some_counter};
 ghost use Rattle.rules.specs.Tables.{astray, grants};
 ghost use Rattle.rules.specs.General.{end_value, recounted};
 ghost use Rattle.ledger.specs.Counters.{Spreads, changed, changed_counter};
@@ -16,13 +16,13 @@ use entries::entry::Entry;
 use entries::rights::{Right, allows};
 
 // An entry is added to the counters, or taken away from them.
-#[derive(Drop)]
+#[derive(Clone, Copy)]
 pub enum Change {
     Added,
     Removed,
 }
 
-#[derive(Drop)]
+#[derive(Clone, Copy)]
 pub enum Counter {
     Writable,
     Executable,
@@ -118,7 +118,7 @@ pub fn change_blocks(change: Change, memory: &[u8], ledger: &mut [u8], e: Entry,
 // Adds an entry to the counters of the blocks that it covers, or takes it away.
 pub fn change_entry(change: Change, memory: &[u8], ledger: &mut [u8], e: Entry)
     requires fits { Fits memory.now ledger.old }
-    requires e_value { astray (storedBase (lent memory.now ledger.old)) (blocks (lent memory.now ledger.old)) (meaning e) ≡ false }
+    requires e_value { astray (stored_base (lent memory.now ledger.old)) (blocks (lent memory.now ledger.old)) (meaning e) ≡ false }
     requires countable { (c : store.Counter) → Countable (change_of change) ledger.old c (meaning e) (specified.cover_first (meaning e)) (specified.cover_blocks (meaning e)) }
     ensures { ledger.new ≡ recounted (change_of change) (lent memory.now ledger.old) 1 (λ k. meaning e) }
 {

@@ -1,5 +1,6 @@
 // The ledger in lent bytes: its words, its counters and marks, and the tests that many calls share.
 #![tactic(auto)]
+
 pub mod bounds; // bounds.rt: whether counters are within bounds
 pub mod counters; // counters.rt: what an entry adds to the counters or takes away
 pub mod image; // image.rt: the refusals of a golden image

@@ -1,5 +1,6 @@
 // The lines that the program prints (program 4, program 5), stored in lent bytes: each function stores from a place on and gives the place after.
 #![tactic(auto)]
+
 ghost use Rattle.std.specs.Prelude.{◌≡◌, [], ◌∷◌, ◌++◌, ◌+◌, ◌-◌, ◌<◌, ◌≤◌, length};
 ghost use Rattle.lines.specs.Decimal.{decimal};
 ghost use Rattle.lines.specs.Lines.{text_of, fitting};

@@ -12,7 +12,7 @@ use entries::entry::{
     is_page, is_section,
 };
 
-#[derive(Drop)]
+#[derive(Clone, Copy)]
 pub enum Form {
     Sections,
     Pages,

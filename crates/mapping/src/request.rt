@@ -1,6 +1,6 @@
 // What a map asks for.
 // At an index of the table at a block, the target with these rights and the memory kind of this number.
-#[derive(Drop)]
+#[derive(Clone, Copy)]
 pub struct Request {
     pub block: u32,
     pub index: u32,

@@ -5,7 +5,7 @@ ghost use Rattle.entries.specs.Entries as specified;
 ghost use Rattle.entries.specs.Meaning.{level_of, meaning};
 ghost use Rattle.rules.specs.Refusals.{answer_of};
 ghost use Rattle.rules.specs.Store as store;
-ghost use Rattle.rules.specs.Store.{base as storedBase, base_place, block_words, clear_mark, fill, ledger_head_bytes, lent};
+ghost use Rattle.rules.specs.Store.{base as stored_base, base_place, block_words, clear_mark, fill, ledger_head_bytes, lent};
 ghost use Rattle.rules.specs.Tables.{table_entry, word_index};
 ghost use Rattle.rules.specs.General.{holder, occupied, recounted};
 ghost use Rattle.ledger.specs.Counters.{Spreads};
@@ -100,7 +100,7 @@ pub fn write_entries(
     requires grants_inside { GrantsInside memory.old ledger.old (meaning e) p n }
     requires countable { (c : store.Counter) → Countable (change_of change) ledger.old c (meaning e) p n }
     ensures memory_after { memory.new ≡ fill memory.old (word_index (lent memory.old ledger.old) block index) m (λ k. w) }
-    ensures by_index { (l : ℕ) (x : ℕ → specified.Entry) → Spreads l x (meaning e) p n → ledger.new ≡ clear_mark (recounted (change_of change) (lent memory.old ledger.old) l x) (holder block index - storedBase (lent memory.old ledger.old)) }
+    ensures by_index { (l : ℕ) (x : ℕ → specified.Entry) → Spreads l x (meaning e) p n → ledger.new ≡ clear_mark (recounted (change_of change) (lent memory.old ledger.old) l x) (holder block index - stored_base (lent memory.old ledger.old)) }
 {
     let j = word_index(ledger, block, index);
     let record = j / BLOCK_WORDS as usize;

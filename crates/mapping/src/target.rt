@@ -4,7 +4,7 @@ ghost use Rattle.words.specs.Bounded.{above, among, neqb};
 ghost use Rattle.entries.specs.Meaning.{meaning};
 ghost use Rattle.entries.specs.Rights.{allows, execute, write};
 ghost use Rattle.rules.specs.Refusals.{answer_of};
-ghost use Rattle.rules.specs.Store.{base as storedBase, lent, record_word, record_words, some_block, type_of};
+ghost use Rattle.rules.specs.Store.{base as stored_base, lent, record_word, record_words, some_block, type_of};
 ghost use Rattle.rules.specs.Tables.{mapping, type_d};
 ghost use Rattle.rules.specs.General.{holder};
 ghost use Rattle.rules.specs.Map.{clashing_target, unfit_target, unsigned_target};
@@ -70,7 +70,7 @@ fn is_unfit_target(memory: &[u8], ledger: &[u8], request: Request, m: u32) -> bo
 // Word k is above 0 in the record of some of the m blocks from target on.
 fn some_counted(memory: &[u8], ledger: &[u8], k: usize, target: u32, m: u32) -> bool
     requires { (k < record_words) × InRegion (lent memory.now ledger.now) target m }
-    ensures { result ≡ some_block target m (λ b. above (record_word ledger.now k (b - storedBase (lent memory.now ledger.now))) 0) }
+    ensures { result ≡ some_block target m (λ b. above (record_word ledger.now k (b - stored_base (lent memory.now ledger.now))) 0) }
 {
     let b = record_of(ledger, target);
     some_above_zero(ledger, k, b, m as usize)

@@ -54,7 +54,7 @@ module _ {h : Told} {s : Store} (r : Running h s) where
   writable_counted b a =
       let w = accessible_counted writable write (λ e. refl) (h.B + b) a in
       let same : w.block ≡ b = omega (arith, w.is) in
-      rw same at w.some-entry
+      rw same at w.some_entry
 
   executable_counted : (p : ℕ) → InWorkingSet h s p → Counted h s executable p
   unfolding grants
@@ -63,12 +63,12 @@ module _ {h : Told} {s : Store} (r : Running h s) where
   pub exclusive : Exclusive h s
   exclusive p as_data as_code =
       let x = executable_counted p as_code in
-      (safe r).exclusive x.block x.inside (writable_counted x.block (rw x.is as_data)) x.some-entry
+      (safe r).exclusive x.block x.inside (writable_counted x.block (rw x.is as_data)) x.some_entry
 
   pub integrity : Integrity h s
   integrity p as_code =
       let x = executable_counted p as_code in
-      rw x.is at ((safe r).signs x.block x.inside x.some-entry)
+      rw x.is at ((safe r).signs x.block x.inside x.some_entry)
 
   pub active : ActiveSwitchable h s
   active p e = rw r.told-base (r.root p e)
@@ -119,7 +119,7 @@ module _ {h : Told} {s : Store} (r : Running h s) where
   guest_keeps_working_set a registers addr p as_code =
       let x = executable_counted p as_code in
       let at : p - h.B ≡ x.block = omega (arith, x.is) in
-      rw at (guest_keeps_executable a registers addr x.block x.inside x.some-entry)
+      rw at (guest_keeps_executable a registers addr x.block x.inside x.some_entry)
 
   -- no table is written, so that every walk reads the entries it read before
   pub guest_keeps_walks : (a : Access) (registers : List ℕ) (addr : ℕ) → KeepsWalks h s (guest_outcome a s registers addr).after

@@ -15,7 +15,7 @@ use Rattle.rules.specs.Store.{Store, blocks, base, Counter, writable, executable
 use Rattle.rules.specs.Tables.{type_d, type_code, table_blocks, table_entries, table_entry, grants, gives, gain, astray}
 use Rattle.rules.specs.General.{added, some_overrun, table_outside, other_type}
 use Rattle.rules.specs.Create.{some_count, unfit_link, unfit_write, misplaced, clashes, unsigned, create_refusals, create_accepted, create_outcome}
-use Rattle.rules.specs.Steps.{creates, Told, after_accepted, typed}
+use Rattle.rules.specs.Steps.{creates, Told, after_accepted}
 use Rattle.rules.specs.Box.{grants_write}
 use Rattle.rules.proofs.Refusals.{Passed, front, passed, passed_front, now, rest}
 use Rattle.rules.proofs.Gains.{gives_within}
@@ -96,7 +96,7 @@ module _ (v : Level) (p : ℕ) {h : Told} {s : Store} (r : Running h s) (can : C
   new_suits x placed writable b l g =
       let q = base s + b in
       let (grant, lo, hi) = gives_within writable x q g in
-      let t = no_block_at (cover_first x) (cover_blocks x) (not_free v s p x) (placed.write-free grant) q lo hi in
+      let t = no_block_at (cover_first x) (cover_blocks x) (not_free v s p x) (placed.write_free grant) q lo hi in
       let is = sym (type_told r q (omega arith) (omega arith)) ∙ equal (type_of s q) type_d (or_false_left (neqb (type_of s q) type_d) (own v s p x q) t) in
       stays added v p r low high writable b is
       (λ from to. let o : own v s p x q ≡ true = among_in p (table_blocks v) q from to in
@@ -105,7 +105,7 @@ module _ (v : Level) (p : ℕ) {h : Told} {s : Store} (r : Running h s) (can : C
   new_suits x placed linked b l g =
       let q = base s + b in
       let (grant, lo, hi) = gives_within linked x q g in
-      let t = no_block_at (cover_first x) (cover_blocks x) (not_l2 v s p x) (placed.link-L2 grant) q lo hi in
+      let t = no_block_at (cover_first x) (cover_blocks x) (not_l2 v s p x) (placed.link_L2 grant) q lo hi in
       let is = sym (type_told r q (omega arith) (omega arith)) ∙ equal (type_of s q) (type_code l2) t in
       stays added v p r low high linked b is
       (λ from to. let i : p + (q - p) ≡ q = omega arith in let z : ⊥ = omega (arith, is, rw i at (was (q - p) (omega arith))) in absurd z)

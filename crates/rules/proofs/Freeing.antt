@@ -11,7 +11,7 @@ use Rattle.rules.specs.Store.{Store, blocks, base, active, Counter, writable, ex
 use Rattle.rules.specs.Tables.{type_d, type_code, table_blocks, table_entries, table_entry}
 use Rattle.rules.specs.General.{removed, retyped, some_overrun, table_outside, other_type}
 use Rattle.rules.specs.Free.{free_refusals, free_after, free_outcome, in_use}
-use Rattle.rules.specs.Steps.{frees, Told, after_accepted, typed}
+use Rattle.rules.specs.Steps.{frees, Told, after_accepted}
 use Rattle.rules.specs.Outcomes.{leaving}
 use Rattle.rules.specs.Box.{grants_write}
 use Rattle.rules.proofs.Refusals.{Passed, front, now, rest}

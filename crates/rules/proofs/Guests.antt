@@ -13,7 +13,7 @@ use borrow.Author.Tests.{not-false}
 use Rattle.words.specs.Words.{word}
 use Rattle.words.proofs.Bounded.{or_false_left}
 use Rattle.words.proofs.Words.{word_cong}
-use Rattle.entries.specs.Entries.{Entry, Level, l1, rights}
+use Rattle.entries.specs.Entries.{Entry, Level, l1}
 use Rattle.entries.specs.Rights.{allows}
 use Rattle.entries.proofs.Decoding.{entry_at_cong}
 use Rattle.rules.specs.Refusals.{Refusal, ◌if◌, answer_of}

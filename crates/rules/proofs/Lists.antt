@@ -42,7 +42,7 @@ module _ (by : Store → Step → Outcome) (Good : Told → Store → List Step 
     unfolding run_by history
     reached steps g zero = keeps.runs g
     reached [] g (suc i) = keeps.runs g
-    reached (step ∷ steps) g (suc i) = reached steps (keeps.onward g) i
+    reached {h} {s} (step ∷ steps) g (suc i) = reached {h = after_answer (by s step).answer h step} {s = (by s step).after} steps (keeps.onward g) i
 
     pub moment : {h : Told} {s : Store} (steps : List Step) → Good h s steps → (i : ℕ) (step : Step) → get_elem? steps i ≡ some step → Moment h s steps i step
     unfolding run_by history
@@ -62,7 +62,7 @@ module _ (by : Store → Step → Outcome) (Good : Told → Store → List Step 
           byte_is = rw same refl;
         }
     moment {h} {s} (first ∷ steps) g (suc i) step e =
-        let m = moment steps (keeps.onward g) i step e in
+        let m = moment {h = after_answer (by s first).answer h first} {s = (by s first).after} steps (keeps.onward g) i step e in
         record {
           told = m.told;
           store = m.store;

@@ -14,7 +14,7 @@ use Rattle.rules.specs.General.{Change, added, removed, recounted, type_after, r
 use Rattle.rules.specs.Steps.{Told, typed, Root}
 use Rattle.rules.proofs.Consistent.{Suits, Replaces, window_before, window_after}
 use Rattle.rules.proofs.Ledger.{length-retype, head_retype, kinds_retype, counter-retype, type_retype_in, type_retype_out, typed_in, typed_out, mark_retype}
-use Rattle.rules.proofs.State.{MarkedAt, type_at, entry_of, Running, within}
+use Rattle.rules.proofs.State.{MarkedAt, type_at, entry_of, Running}
 use Rattle.rules.proofs.Tables.{word_block, entry_of_table, entry_of_data}
 use Rattle.rules.proofs.Changes.{Leaves, length-recounted, head_recounted, kinds_recounted, type_recounted, counter-recounted, mark_recounted}
 
