@@ -1,5 +1,6 @@
 // Prints the page rights of all 1,024 indices, as sixteen lines of 64 hexadecimal digits.
 #![tactic(auto)]
+
 ghost use Rattle.std.specs.Prelude.{◌<◌};
 
 use entries::table::rights_at;
