@@ -1,5 +1,8 @@
 -- What the program does with what a read came to, and why it ends (RULES: program).
-use Rattle.std.specs.Prelude.{Bool, true, false, cond, List, [], ◌≡◌, ℕ, ◌+◌, ◌*◌, ◌^◌, ◌≤◌, ◌<◌, take}
+use Rattle.std.specs.Prelude.{Bool, true, false, cond, List, [], ◌≡◌, ◌⊎◌, ℕ, ◌+◌, ◌*◌, ◌^◌, ◌≤◌, ◌<◌, take}
+use Rattle.std.specs.IoError.{error_kind}
+use Rattle.std.specs.declared.io.Error.{Error}
+use Rattle.std.specs.declared.io.ErrorKind.TheVariants.{Interrupted, WouldBlock}
 use Rattle.lines.specs.Stored.{Stored}
 use Rattle.rules.specs.Store.{Store}
 use Rattle.steps.specs.Records.{record_bytes}
@@ -16,6 +19,10 @@ Fits room kept (Bytes n) = (0 < n) × (kept + n ≤ room)
 Fits room kept End = Unit {0}
 Fits room kept (Later e) = Unit {0}
 Fits room kept (Failed e) = Unit {0}
+
+-- program 8: an error that passes by itself: the read or write was interrupted, or would have waited
+abbrev pub IsPassing : Error → Type 0
+IsPassing e = (error_kind e ≡ Interrupted) ⊎ (error_kind e ≡ WouldBlock)
 
 -- program 1: the image that the program's calls are lent
 abbrev pub image : List ℕ
