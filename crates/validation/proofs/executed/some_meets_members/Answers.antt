@@ -1,7 +1,5 @@
-use Prim.Native.Nat.{◌-◌}
 use native.Mathlib.Omega.{arith}
 use Rattle.words.proofs.Bounded.{told, scan_start, scan_next, scan_found, scan_end}
-use Rattle.validation.specs.Sets.{meets_members}
 use Rattle.validation.proofs.executed.some_meets_members.Goals as goal
 
 pub loop-i-init : goal.loop-i-init

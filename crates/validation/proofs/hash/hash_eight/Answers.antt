@@ -1,5 +1,5 @@
 use mathlib.Core.Path.{◌≡◌}
-use Prim.Native.Nat.{◌+◌, ◌-◌, ◌*◌}
+use Prim.Native.Nat.{◌+◌, ◌*◌}
 use native.Mathlib.Omega.{arith}
 use Rattle.validation.proofs.Hashing.{known_start, known_most, known_next, known_answer, unknown-among, answer_known}
 use Rattle.validation.proofs.hash.hash_eight.Goals as goal

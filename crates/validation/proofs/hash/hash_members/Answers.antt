@@ -1,4 +1,4 @@
-use Prim.Native.Nat.{◌-◌, ◌*◌}
+use Prim.Native.Nat.{◌*◌}
 use native.Mathlib.Omega.{arith}
 use Rattle.rules.proofs.State.{fits_stored}
 use Rattle.validation.proofs.Hashing.{known_start, known_most, known_next, known_answer, known_region, unknown_region, answer_known}

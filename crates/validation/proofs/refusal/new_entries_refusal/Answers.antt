@@ -20,10 +20,10 @@ executed_refusal-requires c =
     let start = c in
     let found = c.survey_new-found.ensures in
     let golden = start.args.golden.now in
-    let gathered = found.1 (omega (arith, c.if-found-eq-EXECUTES.true)) in
+    let gathered = found.all_gathered (omega (arith, c.if-found-eq-EXECUTES.true)) in
     let accepted = c.if-found-eq-UNACCEPTED.false in
     let fit = c.if-found-eq-MISPLACED.false in
-    record { table_placed = (record { fits = start.requires.fits.0; holds = start.requires.fits.1; accepted = accepted_all _ golden _ _ _ _ found.0 accepted; placed = placed_all _ golden _ _ _ _ found.0 accepted fit }, search rules); all_gathered = gathered; i_value = uncounted _ golden _ _ _ _ found.0 accepted fit c.if-found-eq-MEETS_COUNT.false }
+    record { table_placed = (record { fits = start.requires.fits.0; holds = start.requires.fits.1; accepted = accepted_all _ golden _ _ _ _ found.value accepted; placed = placed_all _ golden _ _ _ _ found.value accepted fit }, search rules); all_gathered = gathered; i_value = uncounted _ golden _ _ _ _ found.value accepted fit c.if-found-eq-MEETS_COUNT.false }
 
 pub returns-then-found-eq-EXECUTES : goal.returns-then-found-eq-EXECUTES
 returns-then-found-eq-EXECUTES c = record { value = decides (new_rest _ _ _ _ _ _ c.survey_new-found.ensures.value c.if-found-eq-UNACCEPTED.false c.if-found-eq-MISPLACED.false (judged _ c.executed_refusal.ensures.value)); admitted = c.executed_refusal.ensures.admitted }

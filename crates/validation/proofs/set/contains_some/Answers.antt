@@ -1,4 +1,3 @@
-use Prim.Native.Nat.{◌-◌}
 use native.Mathlib.Omega.{arith}
 use Rattle.words.proofs.Bounded.{told, scan_start, scan_next, scan_found, scan_end}
 use Rattle.validation.proofs.set.contains_some.Goals as goal

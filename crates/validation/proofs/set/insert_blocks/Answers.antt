@@ -1,5 +1,5 @@
 use mathlib.Core.Path.{◌≡◌, refl, ◌∙◌}
-use Prim.Native.Nat.{◌+◌, ◌-◌}
+use Prim.Native.Nat.{◌+◌}
 use native.Mathlib.Omega.{arith}
 use Rattle.validation.proofs.Bits.{members_start, members_next}
 use Rattle.validation.proofs.set.insert_blocks.Goals as goal
@@ -8,7 +8,7 @@ pub insert-requires : goal.insert-requires
 insert-requires c = let pre = c.requires in (pre.0, omega (arith, pre.1))
 
 pub shape_of-members-then-m-eq1 : goal.shape_of-members-then-m-eq1
-shape_of-members-then-m-eq1 c = c.insert.auto.0
+shape_of-members-then-m-eq1 c = c.insert.auto.members
 
 pub returns-then-m-eq1 : goal.returns-then-m-eq1
 returns-then-m-eq1 c =
@@ -26,7 +26,7 @@ pub insert-requires-in-loop-i : goal.insert-requires-in-loop-i
 insert-requires-in-loop-i c = omega (arith, c.requires, c.loop-i.invariant.1)
 
 pub loop-i-preserved : goal.loop-i-preserved
-loop-i-preserved c = (omega arith, c.insert-in-loop-i.auto.0 ∙ c.loop-i.invariant.1, members_next _ _ _ _ _ c.loop-i.invariant.2 c.insert-in-loop-i.ensures)
+loop-i-preserved c = (omega arith, c.insert-in-loop-i.auto.members ∙ c.loop-i.invariant.1, members_next _ _ _ _ _ c.loop-i.invariant.2 c.insert-in-loop-i.ensures)
 
 pub shape_of-members : goal.shape_of-members
 shape_of-members c = c.loop-i.invariant.1

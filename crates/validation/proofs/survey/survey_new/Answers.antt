@@ -1,5 +1,4 @@
 use mathlib.Core.Path.{◌≡◌, refl, sym, ◌∙◌}
-use Prim.Native.Nat.{◌-◌}
 use native.Mathlib.Omega.{arith}
 use Rattle.validation.proofs.Surveys.{new_start, new_left, new_next, greater_first, gathered_none, gathered_more}
 use Rattle.validation.proofs.survey.survey_new.Goals as goal
@@ -16,7 +15,7 @@ entry_at-e-requires c = omega (arith, c.requires.fits.1)
 pub found_with-found-requires : goal.found_with-found-requires
 found_with-found-requires c =
     let pre = c.requires in
-    (pre.0.0, omega (arith, pre.1.0, c.loop-i.invariant.1))
+    (pre.fits.0, omega (arith, pre.whole_set.0, c.loop-i.invariant.1))
 
 pub returns-then-found-eq-UNACCEPTED : goal.returns-then-found-eq-UNACCEPTED
 returns-then-found-eq-UNACCEPTED c =
@@ -28,7 +27,7 @@ pub loop-i-preserved : goal.loop-i-preserved
 loop-i-preserved c =
     let at = c.loop-i in
     let one = rw c.entry_at-e.ensures at c.found_with-found.ensures in
-    (omega arith, omega arith, new_next _ _ _ at.i _ at.i at.invariant.2 one.0, λ z. gathered_more _ at.i _ _ _ (at.invariant.3 (greater_first at.found _ 2 (rw one.0 at z))) (one.1 z))
+    (omega arith, omega arith, new_next _ _ _ at.i _ at.i at.invariant.2 one.value, λ z. gathered_more _ at.i _ _ _ (at.invariant.3 (greater_first at.found _ 2 (rw one.value at z))) (one.gathered z))
 
 pub shape_of-members : goal.shape_of-members
 shape_of-members c = c.loop-i.invariant.1

@@ -1,5 +1,4 @@
 use mathlib.Core.Path.{◌≡◌}
-use Prim.Native.Nat.{◌-◌}
 use native.Mathlib.Omega.{arith}
 use Rattle.validation.proofs.Surveys.{old_start, old_left, old_next}
 use Rattle.validation.proofs.survey.survey_old.Goals as goal
