@@ -44,6 +44,10 @@ module _ (led : List ℕ) (t n : ℕ) (f : Counter → ℕ → ℕ) where
   record_comm : (led : List ℕ) → put_counters (put_record_word (clear_marks led 0 n) type_word n t) n (λ c. f c n) ≡ clear_marks (put_counters (put_record_word led type_word n t) n (λ c. f c n)) 0 n
   record_comm led = rw (clear_marks_comm led type_word n t 0 n (omega arith) (λ e. omega arith), counter_comm (put_record_word led type_word n t) writable) (rw (counter_comm _ executable) (counter_comm _ linked))
 
+  one_more : recount (retype led 0 (suc n) t) (suc n) f ≡ put_counters (put_record_word (recount (retype led 0 n t) n f) type_word n t) n (λ c. f c n)
+  unfolding recount retype
+  one_more = rw (zero-add, type_recount_comm (retype led 0 n t) n t n f) refl
+
   pub cleared_more : clear_mark (put_counters (put_record_word (clear_marks (recount (retype led 0 n t) n f) 0 n) type_word n t) n (λ c. f c n)) n ≡ clear_marks (recount (retype led 0 (n + 1) t) (n + 1) f) 0 (n + 1)
-  unfolding recount retype clear_marks
-  cleared_more = rw (record_comm (recount (retype led 0 n t) n f), add-one, zero-add, type_recount_comm (retype led 0 n t) n t n f) refl
+  unfolding clear_marks
+  cleared_more = rw (record_comm (recount (retype led 0 n t) n f), add-one, one_more, zero-add) refl
