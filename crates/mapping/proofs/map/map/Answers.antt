@@ -20,32 +20,28 @@ returns-then-refusal-ne-ACCEPTED c =
 
 pub hashed_blocks-requires : goal.hashed_blocks-requires
 hashed_blocks-requires c =
-    let start = c in
-    let a = start.args in
+    let a = c.args in
     map_region (form_of a.form) a.golden.now (lent c.args.memory.now c.args.ledger.now) a.request.block a.request.index a.request.target a.request.rights a.request.kind (sym c.map_refusal-refusal.ensures ∙ c.if-refusal-ne-ACCEPTED.false) _ c.target_blocks-n.ensures.is
 
 pub stored_kind-kind-requires : goal.stored_kind-kind-requires
 stored_kind-kind-requires c =
-    let start = c in
-    let a = start.args in
+    let a = c.args in
     map_kind (form_of a.form) a.golden.now (lent c.args.memory.now c.args.ledger.now) a.request.block a.request.index a.request.target a.request.rights a.request.kind (sym c.map_refusal-refusal.ensures ∙ c.if-refusal-ne-ACCEPTED.false)
 
 pub mapping_word-w-requires : goal.mapping_word-w-requires
 mapping_word-w-requires c =
-    let start = c in
-    let a = start.args in
+    let a = c.args in
     map_target (form_of a.form) a.golden.now (lent c.args.memory.now c.args.ledger.now) a.request.block a.request.index a.request.target a.request.rights a.request.kind (sym c.map_refusal-refusal.ensures ∙ c.if-refusal-ne-ACCEPTED.false)
 
 pub write_entries-requires : goal.write_entries-requires
 write_entries-requires c =
-    let start = c in
-    let a = start.args in
-    map_ready (form_of a.form) a.golden.now (lent c.args.memory.now c.args.ledger.now) a.request.block a.request.index a.request.target a.request.rights a.request.kind (sym c.map_refusal-refusal.ensures ∙ c.if-refusal-ne-ACCEPTED.false) c.mapping-e.ensures c.mapping_words.ensures.is c.target_blocks-n.ensures.is
+    let a = c.args in
+    let ready = map_ready (form_of a.form) a.golden.now (lent c.args.memory.now c.args.ledger.now) a.request.block a.request.index a.request.target a.request.rights a.request.kind (sym c.map_refusal-refusal.ensures ∙ c.if-refusal-ne-ACCEPTED.false) c.mapping-e.ensures c.mapping_words.ensures.is c.target_blocks-n.ensures.is in
+    record { slot = ready.0; grants_inside = ready.1.0; countable = ready.1.1 }
 
 pub mark_executed-requires : goal.mark_executed-requires
 mark_executed-requires c =
-    let start = c in
-    let a = start.args in
+    let a = c.args in
     let spreads = map_spreads (form_of a.form) a.request.target a.request.rights c.mapping-e.ensures c.target_blocks-n.ensures.is in
     let (t1, inside) = map_region (form_of a.form) a.golden.now (lent c.args.memory.now c.args.ledger.now) a.request.block a.request.index a.request.target a.request.rights a.request.kind (sym c.map_refusal-refusal.ensures ∙ c.if-refusal-ne-ACCEPTED.false) _ c.target_blocks-n.ensures.is in
     let same = edited_region added (lent c.args.memory.now c.args.ledger.now) _ _ _ _ _ _ c.write_entries.ensures.memory_after (c.write_entries.ensures.by_index _ _ spreads) in
@@ -54,8 +50,7 @@ mark_executed-requires c =
 pub returns : goal.returns
 unfolding map_outcome
 returns c =
-    let start = c in
-    let a = start.args in
+    let a = c.args in
     let said = c.map_refusal-refusal.ensures in
     let zero = c.if-refusal-ne-ACCEPTED.false in
     let target = map_target (form_of a.form) a.golden.now (lent c.args.memory.now c.args.ledger.now) a.request.block a.request.index a.request.target a.request.rights a.request.kind (sym said ∙ zero) in

@@ -38,56 +38,51 @@ from_words : (c : Else-holder-ne-ACCEPTED) {n k : ℕ} → n ≡ mapping_words (
 from_words c words d =
     let a = c.args in
     map-judged (form_of a.form) a.golden.now (lent c.args.memory.now c.args.ledger.now) a.request.block a.request.index a.request.target a.request.rights a.request.kind c.level-level.ensures words
-    (accepted (placed c.before.before.before) (accepted (held c) d))
+    (accepted (placed (goal.at.Else-holder-ne-ACCEPTED c).Else-place-ne-ACCEPTED) (accepted (held c) d))
 
 pub returns-then-place-ne-ACCEPTED : goal.returns-then-place-ne-ACCEPTED
 returns-then-place-ne-ACCEPTED c =
-    let start = c in
-    let a = start.args in
+    let a = c.args in
     map-judged (form_of a.form) a.golden.now (lent c.args.memory.now c.args.ledger.now) a.request.block a.request.index a.request.target a.request.rights a.request.kind refl refl (refused _ _ c.map_place_refusal-place.ensures c.if-place-ne-ACCEPTED.true)
 
 pub holder_refusal-holder-requires : goal.holder_refusal-holder-requires
 holder_refusal-holder-requires c =
-    let start = c in
-    let a = start.args in
+    let a = c.args in
     rw c.level-level.ensures (map_table (form_of a.form) a.golden.now (lent c.args.memory.now c.args.ledger.now) a.request.block a.request.index a.request.target a.request.kind (placed (goal.at.holder_refusal-holder-requires c).Else-place-ne-ACCEPTED))
 
 pub returns-then-holder-ne-ACCEPTED : goal.returns-then-holder-ne-ACCEPTED
 returns-then-holder-ne-ACCEPTED c =
-    let start = c in
-    let a = start.args in
+    let a = c.args in
     map-judged (form_of a.form) a.golden.now (lent c.args.memory.now c.args.ledger.now) a.request.block a.request.index a.request.target a.request.rights a.request.kind c.level-level.ensures refl
     (accepted (placed (goal.at.returns-then-holder-ne-ACCEPTED c).Else-place-ne-ACCEPTED) (refused _ _ c.holder_refusal-holder.ensures c.if-holder-ne-ACCEPTED.true))
 
 pub is_occupied-requires : goal.is_occupied-requires
 is_occupied-requires c =
-    let start = c in
-    let a = start.args in
+    let a = c.args in
     rw c.mapping_words.ensures.is (map_slot (form_of a.form) a.golden.now (lent c.args.memory.now c.args.ledger.now) a.request.block a.request.index a.request.target a.request.kind (placed (goal.at.is_occupied-requires c).Else-place-ne-ACCEPTED))
 
 pub returns-then-is_occupied : goal.returns-then-is_occupied
-returns-then-is_occupied c = from_words c.before.before.before c.mapping_words.ensures.is (here (told (c.is_occupied.ensures _) c.if-is_occupied.true))
+returns-then-is_occupied c = from_words (goal.at.returns-then-is_occupied c).Else-holder-ne-ACCEPTED c.mapping_words.ensures.is (here (told (c.is_occupied.ensures _) c.if-is_occupied.true))
 
 pub returns-then-are_unlawful : goal.returns-then-are_unlawful
 returns-then-are_unlawful c =
-    from_words c.before.before.before.before.before c.mapping_words.ensures.is
+    from_words (goal.at.returns-then-are_unlawful c).Else-holder-ne-ACCEPTED c.mapping_words.ensures.is
     (past (told (c.is_occupied.ensures _) c.if-is_occupied.false) (here (told c.are_unlawful.ensures c.if-are_unlawful.true)))
 
 pub target_refusal-requires : goal.target_refusal-requires
 target_refusal-requires c =
-    let start = c in
-    let a = start.args in
+    let a = c.args in
     let passes = placed (goal.at.target_refusal-requires c).Else-place-ne-ACCEPTED in
     let b = bounds (map_table (form_of a.form) a.golden.now (lent c.args.memory.now c.args.ledger.now) a.request.block a.request.index a.request.target a.request.kind passes) in
     let f = b.fit in
     let l = b.low in
     let h = b.high in
     let k = b.holder_in in
-    record { fits = (now passes, omega arith); e_value = start.requires }
+    record { fits = (now passes, omega arith); e_value = c.requires }
 
 pub returns : goal.returns
 returns c =
-    from_words c.before.before.before.before.before.before c.mapping_words.ensures.is
+    from_words (goal.at.returns c).Else-holder-ne-ACCEPTED c.mapping_words.ensures.is
     (past (told (c.is_occupied.ensures _) c.if-is_occupied.false)
     (past (told c.are_unlawful.ensures c.if-are_unlawful.false)
     (judged _ c.target_refusal.ensures)))

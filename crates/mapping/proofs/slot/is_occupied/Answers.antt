@@ -20,7 +20,7 @@ pub word_index-j-requires : goal.word_index-j-requires
 word_index-j-requires c = let sl = c.requires in let f = fits_stored _ sl.fits in (omega arith, sl.low, omega arith)
 
 pub loop-k-init : goal.loop-k-init
-loop-k-init c = λ c v. scan_start _ _ c
+loop-k-init c = λ v. scan_start _ _
 
 pub is_fault_at-requires : goal.is_fault_at-requires
 is_fault_at-requires c = let f = fits_stored _ c.requires.fits in omega arith
@@ -30,14 +30,14 @@ returns-then-not-is_fault_at c = λ v.
     let a = c.args in
     let k = c.loop-k.k in
     let fault_is = looked_at v a.memory.now a.ledger.now a.block a.index k c.word_index-j.ensures (c.is_fault_at.ensures v) in
-    scan_found _ _ k (omega arith) (rw fault_is at c.if-not-is_fault_at.true-raw)
+    scan_found _ _ k (omega arith) (ap not (rw fault_is at c.if-not-is_fault_at.true))
 
 pub loop-k-preserved : goal.loop-k-preserved
 loop-k-preserved c = λ v.
     let a = c.args in
     let at = c.loop-k in
     let fault_is = looked_at v a.memory.now a.ledger.now a.block a.index at.k c.word_index-j.ensures (c.is_fault_at.ensures v) in
-    scan_next _ _ _ (at.invariant v) (omega arith) (rw fault_is at c.if-not-is_fault_at.false-raw)
+    scan_next _ _ _ (at.invariant v) (omega arith) (ap not (rw fault_is at c.if-not-is_fault_at.false))
 
 pub returns : goal.returns
-returns c = λ c v. scan_end _ _ _ (c.loop-k.invariant v) (omega arith) c
+returns c = λ v. scan_end _ _ _ (c.loop-k.invariant v) (omega arith)

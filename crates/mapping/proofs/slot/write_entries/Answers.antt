@@ -8,7 +8,7 @@ pub word_index-j-requires : goal.word_index-j-requires
 word_index-j-requires c = let sl = c.requires.slot in let f = fits_stored _ sl.fits in (omega arith, sl.low, omega arith)
 
 pub change_blocks-requires : goal.change_blocks-requires
-change_blocks-requires c = let pre = c.requires in record { fits = (pre.0.fits, pre.1.0); countable = pre.1.1 }
+change_blocks-requires c = let pre = c.requires in record { fits = (pre.slot.fits, pre.grants_inside); countable = pre.countable }
 
 pub clear_mark-requires : goal.clear_mark-requires
 clear_mark-requires c = let (is, inside) = slot_record c.requires.slot in omega (arith, is, inside, c.word_index-j.ensures)

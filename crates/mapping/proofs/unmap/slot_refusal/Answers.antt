@@ -40,12 +40,11 @@ from_index : (c : Else-place-ne-ACCEPTED) {n k : ℕ} → n ≡ mapping_words (f
     → let a = c.args in k ≡ answer_of (slot_refusals (form_of a.form) (lent c.args.memory.now c.args.ledger.now) a.block a.index)
 from_index c words d =
     let a = c.args in
-    slot_judged (form_of a.form) (lent c.args.memory.now c.args.ledger.now) a.block a.index c.level-level.ensures words (past (fitting c.before.before.before) (accepted (placed c) d))
+    slot_judged (form_of a.form) (lent c.args.memory.now c.args.ledger.now) a.block a.index c.level-level.ensures words (past (fitting (goal.at.Else-place-ne-ACCEPTED c).Else-is_misfit_stored) (accepted (placed c) d))
 
 pub returns-then-is_misfit_stored : goal.returns-then-is_misfit_stored
 returns-then-is_misfit_stored c =
-    let start = c in
-    let a = start.args in
+    let a = c.args in
     slot_judged (form_of a.form) (lent c.args.memory.now c.args.ledger.now) a.block a.index refl refl (here (told c.is_misfit_stored.ensures c.if-is_misfit_stored.true))
 
 pub place_refusal-place-requires : goal.place_refusal-place-requires
@@ -53,19 +52,18 @@ place_refusal-place-requires c = fitting (goal.at.place_refusal-place-requires c
 
 pub returns-then-place-ne-ACCEPTED : goal.returns-then-place-ne-ACCEPTED
 returns-then-place-ne-ACCEPTED c =
-    let start = c in
-    let a = start.args in
+    let a = c.args in
     slot_judged (form_of a.form) (lent c.args.memory.now c.args.ledger.now) a.block a.index c.level-level.ensures refl (past (fitting (goal.at.returns-then-place-ne-ACCEPTED c).Else-is_misfit_stored) (refused _ _ c.place_refusal-place.ensures c.if-place-ne-ACCEPTED.true))
 
 pub nonzero_rem-index : goal.nonzero_rem-index
 nonzero_rem-index c = let m = c.mapping_words.ensures in omega arith
 
 pub returns-then-index-mapping_words-ne0 : goal.returns-then-index-mapping_words-ne0
-returns-then-index-mapping_words-ne0 c = from_index c.before.before c.mapping_words.ensures.is (here (differ _ _ c.if-index-mapping_words-ne0.true))
+returns-then-index-mapping_words-ne0 c = from_index (goal.at.returns-then-index-mapping_words-ne0 c).Else-place-ne-ACCEPTED c.mapping_words.ensures.is (here (differ _ _ c.if-index-mapping_words-ne0.true))
 
 pub returns-then-table_entries-index : goal.returns-then-table_entries-index
 returns-then-table_entries-index c =
-    from_index c.before.before.before.before c.mapping_words.ensures.is
+    from_index (goal.at.returns-then-table_entries-index c).Else-place-ne-ACCEPTED c.mapping_words.ensures.is
     (past (same _ _ c.if-index-mapping_words-ne0.false) (here (le-leb _ _ (rw c.table_entries.ensures at c.if-table_entries-index.true))))
 
 pub holder_refusal-requires : goal.holder_refusal-requires
@@ -73,5 +71,5 @@ holder_refusal-requires c = record { fits = fitting (goal.at.holder_refusal-requ
 
 pub returns : goal.returns
 returns c =
-    from_index c.before.before.before.before.before c.mapping_words.ensures.is
+    from_index (goal.at.returns c).Else-place-ne-ACCEPTED c.mapping_words.ensures.is
     (past (same _ _ c.if-index-mapping_words-ne0.false) (past (in_table (goal.at.returns c).Else-table_entries-index) (judged _ c.holder_refusal.ensures)))

@@ -26,8 +26,7 @@ first_is c = rw c.level.ensures at c.entry_in-e.ensures
 -- and all is judged
 judge : (c : After-removal_refusal-removal) → c.removal_refusal-removal.result ≡ answer_of (unmap_refusals (form_of c.args.form) (lent c.args.memory.now c.args.ledger.now) c.args.block c.args.index)
 judge c =
-    let start = c in
-    let a = start.args in
+    let a = c.args in
     let passes = slotted (goal.at.After-removal_refusal-removal c).Else-slot-ne-ACCEPTED in
     unmap_judged (form_of a.form) (lent c.args.memory.now c.args.ledger.now) a.block a.index
     (accepted passes (judged _ (c.removal_refusal-removal.ensures _ (entry_speaks (form_of a.form) (lent c.args.memory.now c.args.ledger.now) a.block a.index passes (first_is (goal.at.After-removal_refusal-removal c).After-entry_in-e)))))
@@ -35,14 +34,13 @@ judge c =
 pub returns-then-slot-ne-ACCEPTED : goal.returns-then-slot-ne-ACCEPTED
 unfolding unmap_outcome
 returns-then-slot-ne-ACCEPTED c =
-    let start = c in
-    let a = start.args in
-    leaves_refused _ _ _ (unmap_judged (form_of a.form) (lent c.args.memory.now c.args.ledger.now) a.block a.index (refused _ _ c.slot_refusal-slot.ensures c.if-slot-ne-ACCEPTED.true)) c.if-slot-ne-ACCEPTED.true
+    let a = c.args in
+    let said = unmap_judged (form_of a.form) (lent c.args.memory.now c.args.ledger.now) a.block a.index (refused _ _ c.slot_refusal-slot.ensures c.if-slot-ne-ACCEPTED.true) in
+    record { value = (leaves_refused _ _ _ said c.if-slot-ne-ACCEPTED.true).0; ledger_after = (leaves_refused _ _ _ said c.if-slot-ne-ACCEPTED.true).1 }
 
 pub entry_in-e-requires : goal.entry_in-e-requires
 entry_in-e-requires c =
-    let start = c in
-    let a = start.args in
+    let a = c.args in
     rw c.level.ensures (slot_table (form_of a.form) (lent c.args.memory.now c.args.ledger.now) a.block a.index (slotted (goal.at.entry_in-e-requires c).Else-slot-ne-ACCEPTED))
 
 pub removal_refusal-removal-requires : goal.removal_refusal-removal-requires
@@ -50,24 +48,25 @@ removal_refusal-removal-requires c = now (slotted (goal.at.removal_refusal-remov
 
 pub returns-then-removal-ne-ACCEPTED : goal.returns-then-removal-ne-ACCEPTED
 unfolding unmap_outcome
-returns-then-removal-ne-ACCEPTED c = leaves_refused _ _ _ (judge (goal.at.returns-then-removal-ne-ACCEPTED c).After-removal_refusal-removal) c.if-removal-ne-ACCEPTED.true
+returns-then-removal-ne-ACCEPTED c =
+    let said = judge (goal.at.returns-then-removal-ne-ACCEPTED c).After-removal_refusal-removal in
+    record { value = (leaves_refused _ _ _ said c.if-removal-ne-ACCEPTED.true).0; ledger_after = (leaves_refused _ _ _ said c.if-removal-ne-ACCEPTED.true).1 }
 
 pub write_entries-requires : goal.write_entries-requires
 write_entries-requires c =
-    let start = c in
-    let a = start.args in
-    unmap_ready (form_of a.form) (lent c.args.memory.now c.args.ledger.now) a.block a.index (sym (judge (goal.at.write_entries-requires c).After-removal_refusal-removal) ∙ c.if-removal-ne-ACCEPTED.false)
-    (first_is (goal.at.write_entries-requires c).After-entry_in-e) c.mapping_words.ensures.is c.place_first.ensures c.place_blocks.ensures
+    let a = c.args in
+    let ready = unmap_ready (form_of a.form) (lent c.args.memory.now c.args.ledger.now) a.block a.index (sym (judge (goal.at.write_entries-requires c).After-removal_refusal-removal) ∙ c.if-removal-ne-ACCEPTED.false)
+    (first_is (goal.at.write_entries-requires c).After-entry_in-e) c.mapping_words.ensures.is c.place_first.ensures c.place_blocks.ensures in
+    record { slot = ready.0; grants_inside = ready.1.0; countable = ready.1.1 }
 
 pub returns : goal.returns
 unfolding unmap_outcome
 returns c =
-    let start = c in
-    let a = start.args in
+    let a = c.args in
     let said = judge (goal.at.returns c).After-removal_refusal-removal in
     let zero = c.if-removal-ne-ACCEPTED.false in
     let e = c.write_entries.ensures in
-    leaves_accepted _ _ _ said zero
-    (unmap_memory (form_of a.form) (lent c.args.memory.now c.args.ledger.now) a.block a.index c.mapping_words.ensures.is e.0)
-    ((rw (c.place_first.ensures, c.place_blocks.ensures) at e.1) _ _
-    (unmap_spreads (form_of a.form) (lent c.args.memory.now c.args.ledger.now) a.block a.index (sym said ∙ zero) (first_is (goal.at.returns c).After-entry_in-e)))
+    let memory = unmap_memory (form_of a.form) (lent c.args.memory.now c.args.ledger.now) a.block a.index c.mapping_words.ensures.is e.memory_after in
+    let ledger = (rw (c.place_first.ensures, c.place_blocks.ensures) at e.by_index) _ _
+    (unmap_spreads (form_of a.form) (lent c.args.memory.now c.args.ledger.now) a.block a.index (sym said ∙ zero) (first_is (goal.at.returns c).After-entry_in-e)) in
+    record { value = (leaves_accepted _ _ _ said zero memory ledger).0; ledger_after = (leaves_accepted _ _ _ said zero memory ledger).1 }
