@@ -1,8 +1,6 @@
-use Prim.Native.Nat.{◌-◌}
 use native.Mathlib.Omega.{arith}
 use Rattle.words.proofs.Bounded.{told, scan_start, scan_next, scan_found, scan_end}
 use Rattle.rules.specs.Store.{lent}
-use Rattle.ledger.specs.Counters.{entry_beyond}
 use Rattle.validation.proofs.Covers.{entry_recorded}
 use Rattle.tables.proofs.count.some_above_limit.Goals as goal
 
