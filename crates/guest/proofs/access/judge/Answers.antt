@@ -13,36 +13,26 @@ pub base-first-requires : goal.base-first-requires
 base-first-requires c = let f = fits_stored _ (told c.is_misfit_stored.ensures c.if-is_misfit_stored.false) in omega arith
 
 pub active-table-requires : goal.active-table-requires
-active-table-requires c =
-    let fit = c in
-    let f = fits_stored _ (told fit.is_misfit_stored.ensures fit.if-is_misfit_stored.false) in omega arith
+active-table-requires c = let f = fits_stored _ (told c.is_misfit_stored.ensures c.if-is_misfit_stored.false) in omega arith
 
 pub is_no_table-requires : goal.is_no_table-requires
-is_no_table-requires c =
-    let fit = c in
-    let f = fits_stored _ (told fit.is_misfit_stored.ensures fit.if-is_misfit_stored.false) in omega arith
+is_no_table-requires c = let f = fits_stored _ (told c.is_misfit_stored.ensures c.if-is_misfit_stored.false) in omega arith
 
 pub returns-then-is_no_table : goal.returns-then-is_no_table
 returns-then-is_no_table c =
-    let words = c in
-    let fit = words.before.before.before in
-    judged_21 _ words.base-first.ensures words.blocks-n.ensures words.active-table.ensures (told fit.is_misfit_stored.ensures fit.if-is_misfit_stored.false) _ _
+    judged_21 _ c.base-first.ensures c.blocks-n.ensures c.active-table.ensures (told c.is_misfit_stored.ensures c.if-is_misfit_stored.false) _ _
     (told c.is_no_table.ensures c.if-is_no_table.true)
 
 pub walk_tables-requires : goal.walk_tables-requires
 walk_tables-requires c =
-    let words = c in
-    let fit = words.before.before.before in
-    walkable _ words.base-first.ensures words.blocks-n.ensures words.active-table.ensures (told fit.is_misfit_stored.ensures fit.if-is_misfit_stored.false)
-    (told c.is_no_table.ensures c.if-is_no_table.false)
+    let (region, from) = walkable _ c.base-first.ensures c.blocks-n.ensures c.active-table.ensures (told c.is_misfit_stored.ensures c.if-is_misfit_stored.false)
+    (told c.is_no_table.ensures c.if-is_no_table.false) in
+    record { region = region; first_le_table = from }
 
 pub arrive-requires : goal.arrive-requires
 arrive-requires c = rw c.walk_tables.ensures (ends_from _ _ _ (walk_in_region _ _ _ _ _))
 
 pub returns : goal.returns
 returns c =
-    let table = c in
-    let words = table.before.before in
-    let fit = words.before.before.before in
-    judged-walk _ words.base-first.ensures words.blocks-n.ensures words.active-table.ensures (told fit.is_misfit_stored.ensures fit.if-is_misfit_stored.false) _ _
-    (told table.is_no_table.ensures table.if-is_no_table.false) c.walk_tables.ensures c.arrive.ensures
+    judged-walk _ c.base-first.ensures c.blocks-n.ensures c.active-table.ensures (told c.is_misfit_stored.ensures c.if-is_misfit_stored.false) _ _
+    (told c.is_no_table.ensures c.if-is_no_table.false) c.walk_tables.ensures c.arrive.ensures

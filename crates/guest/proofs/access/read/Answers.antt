@@ -22,8 +22,6 @@ give-requires c = record { in_memory = rw c.judge-verdict.ensures (byte_lies _ _
 pub returns : goal.returns
 unfolding written unmarked
 returns c =
-    let report = c in
-    let fits = report.before.before.before in
-    let judged = fits_judged _ _ _ _ (told fits.before.is-misfit-registers.ensures fits.if1.false) report.judge-verdict.ensures in
+    let judged = fits_judged _ _ _ _ (told c.is_misfit_registers.ensures c.if-is_misfit_registers.false) c.judge-verdict.ensures in
     let (answer, (byte, after)) = outcome_is reads _ _ _ _ judged c.give.ensures.value c.give.ensures.byte_after (kept _ _ _ _ (λ j. (refl, refl))) in
-    record { value = answer; byte_after = byte; ledger_value = after; registers_after = report.report.ensures ∙ registers_are _ _ _ _ _ judged }
+    record { value = answer; byte_after = byte; ledger_value = after; registers_after = c.report.ensures ∙ registers_are _ _ _ _ _ judged }

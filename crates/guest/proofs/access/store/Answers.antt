@@ -15,12 +15,12 @@ clear_mark-requires c = rw c.in-Allowed.is at c.requires.recorded
 
 pub returns-in-Allowed : goal.returns-in-Allowed
 unfolding answer_in memory_in ledger_in written unmarked
-returns-in-Allowed c = rw c.in-Allowed.is (refl, (refl, c.clear_mark.ensures))
+returns-in-Allowed c = rw c.in-Allowed.is (record { value = refl; memory_after = refl; ledger_after = c.clear_mark.ensures })
 
 pub returns-in-Refused : goal.returns-in-Refused
 unfolding answer_in memory_in ledger_in
-returns-in-Refused c = rw c.in-Refused.verdict-1-is (refl, (refl, refl))
+returns-in-Refused c = rw c.in-Refused.verdict-1-is (record { value = refl; memory_after = refl; ledger_after = refl })
 
 pub returns-in-Refused-2 : goal.returns-in-Refused-2
 unfolding answer_in memory_in ledger_in
-returns-in-Refused-2 c = rw c.in-Refused.verdict-in-Stopped-1-is (refl, (refl, refl))
+returns-in-Refused-2 c = rw c.in-Refused.verdict-in-Stopped-1-is (record { value = refl; memory_after = refl; ledger_after = refl })

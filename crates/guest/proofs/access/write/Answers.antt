@@ -17,13 +17,12 @@ pub report-requires : goal.report-requires
 report-requires c = reportable _ _ (told c.is_misfit_registers.ensures c.if-is_misfit_registers.false)
 
 pub store-requires : goal.store-requires
-store-requires c = rw c.judge-verdict.ensures (byte_lies _ _ _)
+store-requires c =
+    let (lies, has) = byte_lies _ _ _ in
+    rw c.judge-verdict.ensures (record { in_memory = lies; recorded = has })
 
 pub returns : goal.returns
 returns c =
-    let stored = c in
-    let report = stored.before.before.before.before.before in
-    let fits = report.before.before.before.before.before in
-    let judged = fits_judged _ _ _ _ (told fits.before.is-misfit-registers.ensures fits.if1.false) report.before.before.judge.ensures in
-    let (answer, (_, after)) = outcome_is (writes _) _ _ _ _ judged stored.store.ensures.value refl stored.store.ensures.memory_after in
-    record { value = answer; ledger_after = after; registers_after = report.report.ensures ∙ registers_are _ _ _ _ _ judged }
+    let judged = fits_judged _ _ _ _ (told c.is_misfit_registers.ensures c.if-is_misfit_registers.false) c.judge-verdict.ensures in
+    let (answer, (_, after)) = outcome_is (writes _) _ _ _ _ judged c.store.ensures.value refl (c.store.ensures.memory_after, c.store.ensures.ledger_after) in
+    record { value = answer; ledger_after = after; registers_after = c.report.ensures ∙ registers_are _ _ _ _ _ judged }

@@ -16,7 +16,7 @@ seventeen c = equal _ registers_bytes (told c.is_misfit_registers.ensures c.if-i
 
 pub returns-then-is_misfit_registers : goal.returns-then-is_misfit_registers
 unfolding acknowledge_outcome acknowledge_registers settle answer_of
-returns-then-is_misfit_registers c = rw (told c.is_misfit_registers.ensures c.if-is_misfit_registers.true) ((λ s. refl), ((λ s. refl), refl))
+returns-then-is_misfit_registers c = rw (told c.is_misfit_registers.ensures c.if-is_misfit_registers.true) (record { value = λ s. refl; pending_after = λ s. refl; registers_after = refl })
 
 pub bounds-registers-16 : goal.bounds-registers-16
 bounds-registers-16 c = omega (arith, seventeen (goal.at.bounds-registers-16 c).Else-is_misfit_registers)
@@ -26,4 +26,4 @@ bounds-registers-16-2 c = omega (arith, seventeen (goal.at.bounds-registers-16-2
 
 pub returns : goal.returns
 unfolding acknowledge_outcome acknowledge_registers settle answer_of
-returns c = rw (told c.is_misfit_registers.ensures c.if-is_misfit_registers.false) ((λ s. refl), ((λ s. refl), refl))
+returns c = rw (told c.is_misfit_registers.ensures c.if-is_misfit_registers.false) (record { value = λ s. refl; pending_after = λ s. refl; registers_after = refl })

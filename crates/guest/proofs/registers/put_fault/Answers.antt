@@ -24,13 +24,8 @@ put_word-requires-2 c = omega (arith, c.address_place.ensures, address_inside (a
 
 pub shape_of-registers : goal.shape_of-registers
 shape_of-registers c =
-    let first = c in
-    let second = c in
-    length-set second.put_word-2.new.0 pending_place 1 ∙ ap length second.put_word-2.ensures ∙ length-put_word _ _ _ ∙ ap length first.put_word.ensures ∙ length-put_word _ _ _
+    length-set c.put_word-2.new.s pending_place 1 ∙ ap length c.put_word-2.ensures ∙ length-put_word _ _ _ ∙ ap length c.put_word.ensures ∙ length-put_word _ _ _
 
 pub returns : goal.returns
 unfolding put_fault
-returns c =
-    let first = c in
-    let second = c in
-    rw (second.put_word-2.ensures, first.put_word.ensures, second.address_place.ensures, first.status_place.ensures)
+returns c = rw (c.put_word-2.ensures, c.put_word.ensures, c.address_place.ensures, c.status_place.ensures)
