@@ -6,7 +6,7 @@ address. So the module means the same on both targets, if an address is never lo
 an address stands alone (`alloca ptr`) it keeps no more than four. Two things are held against it, and what is not understood is refused.
 
 Forms: each line is one of the forms below. Every type, instruction, attribute and intrinsic that occurs is named there. None of them turns an
-address into a number or back, and none belongs to one target.
+address into a number or back, but that an export asks whether it is lent C's null, which is the address 0 on both, and none belongs to one target.
 
 Places: no place in memory holds an address at one time and a number at another. Memory is divided into regions, one for each `alloca`, each parameter
 and each stored address. Regions that a copy, a call or a store of an address may make the same are taken for one. In each, the bytes that are loaded
@@ -27,7 +27,7 @@ from archives import Refused  # noqa: E402
 
 LAYOUT = "e-m:e-p270:32:32-p271:32:32-p272:64:64-i64:64-i128:128-f80:128-n8:16:32:64-S128"
 TRIPLE = "x86_64-unknown-linux-gnu"
-TARGET_ATTRIBUTES = ' "probe-stack"="inline-asm" "target-cpu"="x86-64"'
+TARGET_ATTRIBUTES = ' "probe-stack"="inline-asm" "stack-probe-size"="3072" "target-cpu"="x86-64-v2"'
 ADDRESS_BYTES = 8
 MOST_ALIGNMENT = 8
 
@@ -51,6 +51,7 @@ INSTRUCTIONS = {kind: re.compile(form) for kind, form in {
     "element": rf"(?P<to>{NAME}) = getelementptr (?:inbounds nuw )?i8, ptr (?P<at>{NAME}), i64 (?P<value>{VALUE})",
     "arithmetic": rf"{NAME} = (?:add|sub|mul|udiv|urem|and|or|xor|shl|lshr) (?:nuw )?{NUMBER} {VALUE}, {VALUE}",
     "comparison": rf"{NAME} = icmp (?:eq|ne|ult|ule) {NUMBER} {VALUE}, {VALUE}",
+    "null": rf"{NAME} = icmp eq ptr {NAME}, null",
     "conversion": rf"{NAME} = (?:zext|trunc|trunc nuw) {NUMBER} {VALUE} to {NUMBER}",
     "move": rf"call void @llvm\.memmove\.p0\.p0\.i64\(ptr (?P<at>{NAME}), ptr (?P<value>{NAME}), i64 (?P<bytes>{VALUE}), i1 false\)",
     "set": rf"call void @llvm\.memset\.p0\.i64\(ptr (?P<at>{NAME}), i8 {VALUE}, i64 (?P<bytes>{VALUE}), i1 false\)",
