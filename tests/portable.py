@@ -116,6 +116,11 @@ SAME = {
   %r6 = load ptr, ptr %r0, align 1
   %r7 = load i8, ptr %r6, align 1
   ret void"""),
+    "a slice in memory that is made of zeros": exported("""  %r0 = alloca [16 x i8], align 8
+  %r1 = alloca i64, align 8
+  call void @llvm.memset.p0.i64(ptr %r0, i8 0, i64 16, i1 false)
+  store ptr %a0, ptr %r0, align 8
+  ret void"""),
     "numbers of several sizes at one place": exported("""  %r0 = alloca i64, align 8
   store i8 1, ptr %r0, align 1
   %r1 = load i32, ptr %r0, align 4
@@ -212,6 +217,30 @@ REFUSED = {
     "an address that is cleared": (exported("""  %r0 = alloca [16 x i8], align 8
   store ptr %a0, ptr %r0, align 8
   call void @llvm.memset.p0.i64(ptr %r0, i8 0, i64 16, i1 false)
+  ret void"""), NUMBER),
+    "memory that is made of zeros in part": (exported("""  %r0 = alloca [16 x i8], align 8
+  call void @llvm.memset.p0.i64(ptr %r0, i8 0, i64 4, i1 false)
+  store ptr %a0, ptr %r0, align 8
+  ret void"""), NUMBER),
+    "memory that is made of ones": (exported("""  %r0 = alloca [16 x i8], align 8
+  call void @llvm.memset.p0.i64(ptr %r0, i8 1, i64 16, i1 false)
+  store ptr %a0, ptr %r0, align 8
+  ret void"""), NUMBER),
+    "memory that is made of zeros twice": (exported("""  %r0 = alloca [16 x i8], align 8
+  call void @llvm.memset.p0.i64(ptr %r0, i8 0, i64 16, i1 false)
+  call void @llvm.memset.p0.i64(ptr %r0, i8 0, i64 16, i1 false)
+  store ptr %a0, ptr %r0, align 8
+  ret void"""), NUMBER),
+    "memory that is made of zeros in another block": (exported("""  %r0 = alloca [16 x i8], align 8
+  br label %then.1
+then.1:
+  call void @llvm.memset.p0.i64(ptr %r0, i8 0, i64 16, i1 false)
+  store ptr %a0, ptr %r0, align 8
+  ret void"""), NUMBER),
+    "an address in memory that is made of zeros, read as a number": (exported("""  %r0 = alloca [16 x i8], align 8
+  call void @llvm.memset.p0.i64(ptr %r0, i8 0, i64 16, i1 false)
+  store ptr %a0, ptr %r0, align 8
+  %r1 = load i64, ptr %r0, align 8
   ret void"""), NUMBER),
     "a copy of an address that is read as a number": (exported("""  %r0 = alloca [16 x i8], align 8
   store ptr %a0, ptr %r0, align 8
