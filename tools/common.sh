@@ -160,7 +160,7 @@ stamp() { # NAME INPUTS FILE...
 # rt's report without what went well: a line for each function, and for each library. A loop of the shell hears a signal at once, which it would not while
 # it waits for a filter.
 report() {
-    local line well='^(fn .*: proved|checked .*, [0-9]+ of [0-9]+|(logic|axioms|statements|library|crate|built:) .*|rt: chose .*)$'
+    local line well='^([a-z]+ [^ ]+: proved|checked .*, [0-9]+ of [0-9]+|(logic|axioms|statements|library|crate|built:|linked) .*|rt: (chose|running) .*)$'
     while IFS= read -r line || [ -n "$line" ]; do
         [[ $line =~ $well ]] || printf '%s\n' "$line"
     done
@@ -218,11 +218,12 @@ keeping_kit() {
 
 # ---- what is proved and built
 
-# The static library of the crate behind an archive. The module of which the archive was compiled is kept beside it.
+# The static library of the crate behind an archive. The module of which the archive was compiled is kept beside it. The proof is the kit's own work, so that
+# it begins with what other checkouts have kept; the folder beside it takes what is proved.
 prove_archive() { # NAME
     local made=crates/$1_c/out/lib$1_c.a
     rm -f -- "$made"
-    keeping_kit && follow report env --chdir="crates/$1_c" "$kit/bin/rt" lib && mkdir -p target/staticlib &&
+    follow report env --chdir="crates/$1_c" rt check && keeping_kit && follow report env --chdir="crates/$1_c" "$kit/bin/rt" lib && mkdir -p target/staticlib &&
         mv -- "$kit/module.bc" "target/staticlib/lib$1.bc" && mv -- "$made" "target/staticlib/lib$1.a"
 }
 
