@@ -1,5 +1,5 @@
 #!/usr/bin/env python3
-"""Prints the tables of docs/MEASURES.md. The argument is a file with what .ci/run printed, for the seconds of each check."""
+"""Prints the tables of docs/MEASURES.md. The argument is a file with what .ci/run printed, for the seconds of each check, where rt says them."""
 import re
 import sys
 from pathlib import Path
@@ -45,7 +45,7 @@ def group(name, crate):
 
 def main():
     log = Path(sys.argv[1]).read_text(encoding="utf8") if len(sys.argv) > 1 else ""
-    crates = re.findall(r"^(\w+):", (ROOT / "crates.txt").read_text(encoding="utf8"), re.M)
+    crates = re.findall(r"^(\w+)[^:#\n]*:", (ROOT / "crates.txt").read_text(encoding="utf8"), re.M)
     print("| crate | functions | code | definitions | proofs | must-fail edits | seconds |")
     print("|---|---|---|---|---|---|---|")
     rows = {crate: measure(crate, log) for crate in crates}

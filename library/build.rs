@@ -1,4 +1,4 @@
-//! Links the archives that `rt staticlib` writes.
+//! Links the archives that `rt lib` writes, in target/staticlib.
 use std::path::Path;
 
 const ARCHIVES: &str = concat!(env!("CARGO_MANIFEST_DIR"), "/../target/staticlib");

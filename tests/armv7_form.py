@@ -1,7 +1,5 @@
 #!/usr/bin/env python3
 """tools/armv7_form.py on objects that the kit's clang assembles: one of the form that a hypervisor can link, and others that differ in one thing."""
-import os
-import platform
 import shutil
 import subprocess
 import sys
@@ -13,8 +11,7 @@ sys.dont_write_bytecode = True
 sys.path.insert(0, str(Path(__file__).resolve().parent.parent / "tools"))
 import armv7_form  # noqa: E402
 
-KIT = Path(os.environ.get("RATTLE_HOME") or Path(shutil.which("rt")).resolve().parent.parent)
-CLANG = KIT / "on" / platform.machine() / "toolchain" / "bin" / "clang"
+CLANG = Path(shutil.which("rt")).resolve().parent.parent / "toolchain" / "bin" / "clang"
 ARM = ["--target=armv7a-none-eabi", "-mfloat-abi=soft"]
 
 GOOD = """.syntax unified

@@ -77,13 +77,14 @@ memory_functions() {
         c_run memory
 }
 
-# The lines of docs/INTEGRATION.md for make or cmake, in a folder with examples/link.c as the hypervisor. The repository lies beside it, where they look.
+# The lines of docs/INTEGRATION.md for make or cmake, in a folder with examples/link.c as the hypervisor. The repository lies beside it, where they look:
+# by a link, of which rt ci takes none in the repository.
 snippet() { # LANGUAGE FILE
-    rm -rf -- "${built:?}/$1"
-    mkdir -p "$built/$1"
-    ln -sfn -- "$PWD" "$built/pagemon"
-    cp examples/link.c "$built/$1/main.c"
-    sed -n "/^\`\`\`$1\$/,/^\`\`\`\$/ { /^\`\`\`/d; p }" docs/INTEGRATION.md > "$built/$1/$2"
+    rm -rf -- "${scratch:?}/linked/$1"
+    mkdir -p "$scratch/linked/$1"
+    ln -sfn -- "$PWD" "$scratch/linked/pagemon"
+    cp examples/link.c "$scratch/linked/$1/main.c"
+    sed -n "/^\`\`\`$1\$/,/^\`\`\`\$/ { /^\`\`\`/d; p }" docs/INTEGRATION.md > "$scratch/linked/$1/$2"
 }
 
 # The archives, where they are not those that the lines look for.
@@ -94,13 +95,13 @@ named_archives() { # FLAG
 linked_by_make() {
     local named
     mapfile -t named < <(named_archives "")
-    snippet make Makefile && make --silent -C "$built/make" CC="${compiler[*]}" "${named[@]}" && "${runner[@]}" "$built/make/hypervisor"
+    snippet make Makefile && make --silent -C "$scratch/linked/make" CC="${compiler[*]}" "${named[@]}" && "${runner[@]}" "$scratch/linked/make/hypervisor"
 }
 
 linked_by_cmake() {
     local named
     mapfile -t named < <(named_archives -D)
     snippet cmake CMakeLists.txt &&
-        cmake -S "$built/cmake" -B "$built/cmake/build" -DCMAKE_C_COMPILER="${compiler[0]}" -DCMAKE_EXE_LINKER_FLAGS="${compiler[*]:1}" "${named[@]}" \
-            > "$built/cmake/said" && cmake --build "$built/cmake/build" > "$built/cmake/said" && "${runner[@]}" "$built/cmake/build/hypervisor"
+        cmake -S "$scratch/linked/cmake" -B "$scratch/linked/cmake/build" -DCMAKE_C_COMPILER="${compiler[0]}" -DCMAKE_EXE_LINKER_FLAGS="${compiler[*]:1}" "${named[@]}" \
+            > "$scratch/linked/cmake/said" && cmake --build "$scratch/linked/cmake/build" > "$scratch/linked/cmake/said" && "${runner[@]}" "$scratch/linked/cmake/build/hypervisor"
 }

@@ -16,7 +16,7 @@ TAIL = """
 declare void @llvm.memmove.p0.p0.i64(ptr writeonly captures(none), ptr readonly captures(none), i64, i1 immarg) #1
 declare void @llvm.memset.p0.i64(ptr writeonly captures(none), i8, i64, i1 immarg) #2
 declare void @llvm.trap() #3
-attributes #0 = { nounwind "probe-stack"="inline-asm" "target-cpu"="x86-64" }
+attributes #0 = { nounwind "probe-stack"="inline-asm" "stack-probe-size"="3072" "target-cpu"="x86-64-v2" }
 attributes #1 = { nocallback nofree nounwind willreturn memory(argmem: readwrite) }
 attributes #2 = { nocallback nofree nounwind willreturn memory(argmem: write) }
 attributes #3 = { cold noreturn nounwind memory(inaccessiblemem: write) }
@@ -105,6 +105,22 @@ SAME = {
     "an address and a number side by side in what a function is lent": internal("""  %r0 = load ptr, ptr %a0, align 8
   %r1 = getelementptr i8, ptr %a0, i64 8
   store i64 0, ptr %r1, align 8"""),
+    "a slice that may be null": exported("""  %r0 = alloca [16 x i8], align 8
+  %r1 = icmp eq ptr %a0, null
+  %r2 = zext i1 %r1 to i64
+  %r3 = mul i64 %r2, 4096
+  %r4 = getelementptr i8, ptr %a0, i64 %r3
+  store ptr %r4, ptr %r0, align 8
+  %r5 = getelementptr i8, ptr %r0, i64 8
+  store i64 %a1, ptr %r5, align 8
+  %r6 = load ptr, ptr %r0, align 1
+  %r7 = load i8, ptr %r6, align 1
+  ret void"""),
+    "a slice in memory that is made of zeros": exported("""  %r0 = alloca [16 x i8], align 8
+  %r1 = alloca i64, align 8
+  call void @llvm.memset.p0.i64(ptr %r0, i8 0, i64 16, i1 false)
+  store ptr %a0, ptr %r0, align 8
+  ret void"""),
     "numbers of several sizes at one place": exported("""  %r0 = alloca i64, align 8
   store i8 1, ptr %r0, align 1
   %r1 = load i32, ptr %r0, align 4
@@ -131,6 +147,7 @@ REFUSED = {
     "an address made a number": (exported("  %r0 = ptrtoint ptr %a0 to i64\n  ret void"), FORM),
     "a number made an address": (exported("  %r0 = inttoptr i64 %a1 to ptr\n  ret void"), FORM),
     "addresses that are compared": (exported("  %r0 = icmp eq ptr %a0, %a0\n  ret void"), FORM),
+    "an address that is compared with null by size": (exported("  %r0 = icmp ugt ptr %a0, null\n  ret void"), FORM),
     "a vector": (exported("  %r0 = alloca <4 x i32>, align 8\n  ret void"), FORM),
     "a floating-point number": (exported("  %r0 = alloca double, align 8\n  ret void"), FORM),
     "a number of 128 bits": (exported("  %r0 = alloca i128, align 8\n  ret void"), FORM),
@@ -143,7 +160,7 @@ REFUSED = {
   store i64 ptrtoint (ptr @f to i64), ptr %r0, align 8
   ret void"""), FORM),
     "a variable of the module": (HEAD + "@v = global i32 0\n" + SLICE + TAIL, FORM),
-    "an attribute of the target": ((HEAD + SLICE + TAIL).replace('"target-cpu"="x86-64"', '"target-features"="+sse4"'), FORM),
+    "an attribute of the target": ((HEAD + SLICE + TAIL).replace('"target-cpu"="x86-64-v2"', '"target-features"="+sse4"'), FORM),
     "another layout": ((HEAD + SLICE + TAIL).replace("-i64:64-", "-i64:32-"), FORM),
     "text for the assembler": (HEAD + 'module asm "nop"\n' + SLICE + TAIL, FORM),
     "a struct that is handed over": (exported("  ret void", "ptr noundef byval([16 x i8]) %a0"), FORM),
@@ -200,6 +217,30 @@ REFUSED = {
     "an address that is cleared": (exported("""  %r0 = alloca [16 x i8], align 8
   store ptr %a0, ptr %r0, align 8
   call void @llvm.memset.p0.i64(ptr %r0, i8 0, i64 16, i1 false)
+  ret void"""), NUMBER),
+    "memory that is made of zeros in part": (exported("""  %r0 = alloca [16 x i8], align 8
+  call void @llvm.memset.p0.i64(ptr %r0, i8 0, i64 4, i1 false)
+  store ptr %a0, ptr %r0, align 8
+  ret void"""), NUMBER),
+    "memory that is made of ones": (exported("""  %r0 = alloca [16 x i8], align 8
+  call void @llvm.memset.p0.i64(ptr %r0, i8 1, i64 16, i1 false)
+  store ptr %a0, ptr %r0, align 8
+  ret void"""), NUMBER),
+    "memory that is made of zeros twice": (exported("""  %r0 = alloca [16 x i8], align 8
+  call void @llvm.memset.p0.i64(ptr %r0, i8 0, i64 16, i1 false)
+  call void @llvm.memset.p0.i64(ptr %r0, i8 0, i64 16, i1 false)
+  store ptr %a0, ptr %r0, align 8
+  ret void"""), NUMBER),
+    "memory that is made of zeros in another block": (exported("""  %r0 = alloca [16 x i8], align 8
+  br label %then.1
+then.1:
+  call void @llvm.memset.p0.i64(ptr %r0, i8 0, i64 16, i1 false)
+  store ptr %a0, ptr %r0, align 8
+  ret void"""), NUMBER),
+    "an address in memory that is made of zeros, read as a number": (exported("""  %r0 = alloca [16 x i8], align 8
+  call void @llvm.memset.p0.i64(ptr %r0, i8 0, i64 16, i1 false)
+  store ptr %a0, ptr %r0, align 8
+  %r1 = load i64, ptr %r0, align 8
   ret void"""), NUMBER),
     "a copy of an address that is read as a number": (exported("""  %r0 = alloca [16 x i8], align 8
   store ptr %a0, ptr %r0, align 8

@@ -52,6 +52,8 @@ BOUNDS = {
     "a jump table with an instruction aside": (table(more="xor esi, esi;"), {"f": 64}),
     "one push on each of two paths that meet": ("*f { test edi, edi; je 1f; push rbx; jmp 2f; 1: push rbp; 2: pop rax; ret }", {"f": 16}),
     "a loop": ("*f { push rbx; 1: dec edi; jne 1b; pop rbx; ret }", {"f": 16}),
+    "an array in the frame by an index, from a start that is folded": (
+        "*f { push rbx; sub rsp, 0x18; mov eax, [rsp + rdi * 4 - 0x20]; add [rsp + rdi * 4 - 4], eax; add rsp, 0x18; pop rbx; ret }", {"f": 40}),
     "a reservation by a negative number": ("*f { add rsp, -0x80; sub rsp, -0x80; ret }", {"f": 136}),
     "a reservation by lea": ("*f { lea rsp, [rsp - 0x20]; lea rsp, [rsp + 0x20]; ret }", {"f": 40}),
     "a call": ("*f { push rbx; call g; pop rbx; ret } g { sub rsp, 0x28; add rsp, 0x28; ret }", {"f": 64}),
@@ -105,6 +107,10 @@ REFUSALS = {
     "an address below the stack pointer": ("*f { lea rdi, [rsp - 8]; ret }", r"f: 0: lea .*: a place below the stack pointer$"),
     "a place far below the stack pointer": ("*f { mov [rsp - 136], rdi; ret }", r"f: 0: mov .*: a place below the stack pointer$"),
     "a place below the stack pointer by a register": ("*f { mov [rsp + rdi * 8 - 8], rdi; ret }", r"f: 0: mov .*: a place below the stack pointer$"),
+    "a place by a register, from a start below the frame": (
+        "*f { sub rsp, 0x18; mov [rsp + rdi * 8 - 0x20], rdi; add rsp, 0x18; ret }", r"f: 4: mov .*: a place below the stack pointer$"),
+    "an address by a register, from a start below the stack pointer": (
+        "*f { sub rsp, 0x18; lea rdi, [rsp + rdi * 8 - 8]; add rsp, 0x18; ret }", r"f: 4: lea .*: a place below the stack pointer$"),
     "depths that differ where two paths meet": (
         "*f { test edi, edi; je 1f; push rbx; 1: nop; ud2 }", r"it leads to 5 with (0|8) bytes on the stack, another path with (0|8)$"),
     "a loop that pushes": (

@@ -67,7 +67,7 @@ needs() { # PROGRAM...
 
 # ---- what runs below a script
 
-job='' scratch=''
+job='' scratch='' kit=''
 
 # A folder for the temporary files of all that runs below the script. rt runs programs as nobody there, who must be able to pass.
 make_scratch() {
@@ -110,7 +110,7 @@ follow() { # FILTER COMMAND...
 # ---- libraries and programs
 
 listed_crates() {
-    sed -n 's/#.*//; s/^[[:blank:]]*\([A-Za-z_][A-Za-z0-9_]*\)[[:blank:]]*:.*/\1/p' crates.txt
+    sed -n 's/#.*//; s/^[[:blank:]]*\([A-Za-z_][A-Za-z0-9_]*\)[^:]*:.*/\1/p' crates.txt
 }
 
 # A crate, and those of the repository that it uses, directly or not.
@@ -123,17 +123,18 @@ crates_of() { # NAME
             count = split(uses[crate], used, " ")
             for (i = 1; i <= count; i++) visit(used[i])
         }
-        { sub(/#.*/, ""); gsub(/[ \t]/, "", $1); uses[$1] = $2 }
+        { sub(/#.*/, ""); sub(/^[ \t]+/, "", $1); sub(/[ \t].*/, "", $1); uses[$1] = $2 }
         END { visit(name) }' crates.txt
 }
 
-# A sum over all from which a crate is built: the kit, the machine, crates.txt, and the files of the crate and of those below it, but for the edits.
+# A sum over all from which a crate is built: the kit, the machine, crates.txt, and the files of the crate and of those below it, but for the edits
+# and for what is built.
 inputs_of() { # NAME
     local crates
     mapfile -t crates < <(crates_of "$1")
     {
         rt version && uname -m && sha256sum crates.txt &&
-            find -L "${crates[@]/#/crates/}" -type f -not -regex 'crates/[^/]*/\(must-fail\|controls\)/.*' -print0 |
+            find -L "${crates[@]/#/crates/}" -type f -not -regex 'crates/[^/]*/\(must-fail\|controls\|out\)/.*' -print0 |
             LC_ALL=C sort -z | xargs -0 sha256sum
     } | sha256sum
 }
@@ -156,24 +157,25 @@ stamp() { # NAME INPUTS FILE...
     if [ "$(inputs_of "$1")" = "$2" ]; then stamp_of "${@:2}" > "$3.stamp"; fi
 }
 
-# rt takes a crate for proved by its stamp, also when its library is gone. A program has none here, and is linked anew.
-forget_lost() { # NAME
-    local crate
-    for crate in $(crates_of "$1"); do
-        [ -d "target/rlib/$crate.rlib" ] || rm -f -- "target/stamp/$crate"
-    done
-}
-
-# rt's report, without the crates that it need not prove. A loop of the shell hears a signal at once, which it would not while it waits for a filter.
+# rt's report without what went well: a line for each function, and for each library. A loop of the shell hears a signal at once, which it would not while
+# it waits for a filter.
 report() {
-    local line
+    local line well='^([a-z]+ [^ ]+: proved|checked .*, [0-9]+ of [0-9]+|(logic|axioms|statements|library|crate|built:|linked) .*|rt: (chose|running) .*)$'
     while IFS= read -r line || [ -n "$line" ]; do
-        [[ $line == 'rt: '*' proved (unchanged since it was last proved)' ]] || printf '%s\n' "$line"
+        [[ $line =~ $well ]] || printf '%s\n' "$line"
     done
 }
 
+# Puts a program that rt has built where it belongs.
+take_program() { # NAME
+    mkdir -p target/bin && cp -- "crates/$1/out/$1" "target/bin/$1"
+}
+
+# rt proves, builds and runs a program in one; the program is there if it is proved. What it prints and how it ends, without input, is not looked at.
 prove_program() { # NAME
-    follow report rt check "$1"
+    rm -f -- "crates/$1/out/$1"
+    follow report bash -c 'cd -- "$1" && exec rt run > /dev/null' rt "crates/$1" || [ -f "crates/$1/out/$1" ] || return 1
+    take_program "$1"
 }
 
 # ---- the kit
@@ -182,7 +184,7 @@ prove_program() { # NAME
 kit_home() {
     local rt
     rt=$(readlink -f -- "$(command -v rt)")
-    readlink -f -- "${RATTLE_HOME:-${rt%/bin/rt}}"
+    printf '%s\n' "${rt%/bin/rt}"
 }
 
 # Says what is wrong, if the kit is not the one that toolchain.txt pins.
@@ -193,62 +195,61 @@ differing_kit() {
     [ "$found" = "$pinned" ] || echo "rt version prints '$found', and toolchain.txt has '$pinned'"
 }
 
-# A folder that is the kit but for one file: its clang keeps the module that it is handed, and then does what the kit's does. The back end runs it with no
-# environment, so that all paths stand in it.
+# A folder that is the kit but for one file: its clang keeps the module that it is handed, and then does what the kit's does. rt finds the kit by the place
+# of its own two files, so these are copied. The back end runs clang with no environment, so that all paths stand in it. The folder is no part of the
+# repository: rt ci takes no links there.
 keeping_kit() {
-    local home machine kit=target/kit part
-    home=$(kit_home) machine=$(uname -m)
-    rm -rf -- "$kit"
-    mkdir -p "$kit/on/$machine/toolchain/bin"
-    for part in "$home"/*; do
-        [ "${part##*/}" = on ] || ln -s -- "$part" "$kit/"
+    local home part
+    home=$(kit_home)
+    make_scratch
+    kit=$scratch/kit
+    [ ! -d "$kit" ] || return 0
+    mkdir -p "$kit/bin" "$kit/toolchain/bin"
+    for part in "$home"/* "$home"/bin/* "$home"/toolchain/* "$home"/toolchain/bin/*; do
+        [ -e "$kit/${part#"$home/"}" ] || ln -s -- "$part" "$kit/${part#"$home/"}"
     done
-    for part in "$home/on/$machine"/*; do
-        [ "${part##*/}" = toolchain ] || ln -s -- "$part" "$kit/on/$machine/"
+    for part in rt rtlib.py; do
+        rm -f -- "$kit/bin/$part" && cp -- "$home/bin/$part" "$kit/bin/"
     done
-    ln -s -- "$home/on/$machine/toolchain/lib" "$kit/on/$machine/toolchain/"
-    for part in ld.lld llvm-ar; do
-        ln -s -- "$home/on/$machine/toolchain/bin/$part" "$kit/on/$machine/toolchain/bin/"
-    done
-    printf '#!/bin/sh\ncp module.bc %q/module.bc || exit 1\nexec %q "$@"\n' "$PWD/$kit" "$home/on/$machine/toolchain/bin/clang" \
-        > "$kit/on/$machine/toolchain/bin/clang"
-    chmod +x "$kit/on/$machine/toolchain/bin/clang"
+    rm -f -- "$kit/toolchain/bin/clang"
+    printf '#!/bin/sh\ncp module.bc %q/module.bc || exit 1\nexec %q "$@"\n' "$kit" "$home/toolchain/bin/clang" > "$kit/toolchain/bin/clang"
+    chmod +x "$kit/toolchain/bin/clang"
 }
 
 # ---- what is proved and built
 
-# rt staticlib proves the crates below one after the other, rt check as many at a time as there are processors. The module of which the archive was compiled
-# is kept beside it.
+# The static library of the crate behind an archive. The module of which the archive was compiled is kept beside it. The proof is the kit's own work, so that
+# it begins with what other checkouts have kept; the folder beside it takes what is proved.
 prove_archive() { # NAME
-    local below
-    mapfile -t below < <(crates_of "$1" | tail -n +2)
-    { [ ${#below[@]} -eq 0 ] || follow report rt check "${below[@]}"; } && keeping_kit &&
-        follow report env RATTLE_HOME="$PWD/target/kit" rt staticlib "$1" && mv -- target/kit/module.bc "target/staticlib/lib$1.bc"
+    local made=crates/$1_c/out/lib$1_c.a
+    rm -f -- "$made"
+    follow report env --chdir="crates/$1_c" rt check && keeping_kit && follow report env --chdir="crates/$1_c" "$kit/bin/rt" lib && mkdir -p target/staticlib &&
+        mv -- "$kit/module.bc" "target/staticlib/lib$1.bc" && mv -- "$made" "target/staticlib/lib$1.a"
 }
 
-# Builds files by a function, unless they are up to date. The report goes to standard error.
-build() { # NAME FUNCTION TIME FILE...
-    local name=$1 function=$2 time=$3 inputs
-    shift 3
-    inputs=$(inputs_of "$name") || return 1
+# Builds files by a function, unless they are up to date with a crate. The report goes to standard error.
+build() { # CRATE NAME FUNCTION TIME FILE...
+    local crate=$1 name=$2 function=$3 time=$4 inputs
+    shift 4
+    inputs=$(inputs_of "$crate") || return 1
     if is_built "$inputs" "$@"; then return 0; fi
     echo "$script: proving and building $1, which takes $time" >&2
     rm -f -- "$@" "$1.stamp"
-    forget_lost "$name"
     if ! "$function" "$name" >&2; then
         rm -f -- "$@"
         echo "$script: $1 is not built" >&2
         return 1
     fi
-    stamp "$name" "$inputs" "$@"
+    stamp "$crate" "$inputs" "$@"
 }
 
 build_program() { # NAME
-    build "$1" prove_program "7 minutes from nothing, a minute if only $1 has changed" "target/bin/$1"
+    build "$1" "$1" prove_program "7 minutes from nothing with the older kit, a minute if only $1 has changed" "target/bin/$1"
 }
 
 build_archive() { # NAME
-    build "$1" prove_archive "a minute, and up to 6 more if crates below $1 are not proved" "target/staticlib/lib$1.a" "target/staticlib/lib$1.bc"
+    build "$1_c" "$1" prove_archive "a minute, and up to 6 more with the older kit if crates below $1 are not proved" \
+        "target/staticlib/lib$1.a" "target/staticlib/lib$1.bc"
 }
 
 # All that C and Rust link.

@@ -6,11 +6,11 @@ address. So the module means the same on both targets, if an address is never lo
 an address stands alone (`alloca ptr`) it keeps no more than four. Two things are held against it, and what is not understood is refused.
 
 Forms: each line is one of the forms below. Every type, instruction, attribute and intrinsic that occurs is named there. None of them turns an
-address into a number or back, and none belongs to one target.
+address into a number or back, but that an export asks whether it is lent C's null, which is the address 0 on both, and none belongs to one target.
 
 Places: no place in memory holds an address at one time and a number at another. Memory is divided into regions, one for each `alloca`, each parameter
 and each stored address. Regions that a copy, a call or a store of an address may make the same are taken for one. In each, the bytes that are loaded
-and stored as addresses are compared with those that are loaded, stored or cleared as numbers, and no copy takes a part of an address. An address that
+and stored as addresses are compared with those that are loaded, stored or cleared as numbers (but where all of a local is cleared before it is used), and no copy takes a part of an address. An address that
 stands alone is loaded and stored, and nothing else. What C lends holds no address.
 
 usage: tools/portable.py MODULE TARGET
@@ -27,7 +27,7 @@ from archives import Refused  # noqa: E402
 
 LAYOUT = "e-m:e-p270:32:32-p271:32:32-p272:64:64-i64:64-i128:128-f80:128-n8:16:32:64-S128"
 TRIPLE = "x86_64-unknown-linux-gnu"
-TARGET_ATTRIBUTES = ' "probe-stack"="inline-asm" "target-cpu"="x86-64"'
+TARGET_ATTRIBUTES = ' "probe-stack"="inline-asm" "stack-probe-size"="3072" "target-cpu"="x86-64-v2"'
 ADDRESS_BYTES = 8
 MOST_ALIGNMENT = 8
 
@@ -51,9 +51,10 @@ INSTRUCTIONS = {kind: re.compile(form) for kind, form in {
     "element": rf"(?P<to>{NAME}) = getelementptr (?:inbounds nuw )?i8, ptr (?P<at>{NAME}), i64 (?P<value>{VALUE})",
     "arithmetic": rf"{NAME} = (?:add|sub|mul|udiv|urem|and|or|xor|shl|lshr) (?:nuw )?{NUMBER} {VALUE}, {VALUE}",
     "comparison": rf"{NAME} = icmp (?:eq|ne|ult|ule) {NUMBER} {VALUE}, {VALUE}",
+    "null": rf"{NAME} = icmp eq ptr {NAME}, null",
     "conversion": rf"{NAME} = (?:zext|trunc|trunc nuw) {NUMBER} {VALUE} to {NUMBER}",
     "move": rf"call void @llvm\.memmove\.p0\.p0\.i64\(ptr (?P<at>{NAME}), ptr (?P<value>{NAME}), i64 (?P<bytes>{VALUE}), i1 false\)",
-    "set": rf"call void @llvm\.memset\.p0\.i64\(ptr (?P<at>{NAME}), i8 {VALUE}, i64 (?P<bytes>{VALUE}), i1 false\)",
+    "set": rf"call void @llvm\.memset\.p0\.i64\(ptr (?P<at>{NAME}), i8 (?P<value>{VALUE}), i64 (?P<bytes>{VALUE}), i1 false\)",
     "trap": r"call void @llvm\.trap\(\)",
     "call": rf"(?:{NAME} = )?call (?P<result>void|{NUMBER}) (?P<callee>{FUNCTION})\((?P<arguments>(?:{ARGUMENT}(?:, {ARGUMENT})*)?)\)",
     "branch": rf"br (?:label %{LABEL}|i1 {VALUE}, label %{LABEL}, label %{LABEL})",
@@ -161,10 +162,11 @@ class Places:
 
     def __init__(self):
         self.parameters, self.locals, self.alone, self.moves = {}, {}, set(), []
+        self.unused = {}
 
     def enter(self, name, parameters):
         """Starts a function: its parameters are places."""
-        self.alone = set()
+        self.alone, self.unused = set(), {}
         self.locals = {parameter: (self.parameter(name, index), 0) for index, (type_, parameter) in enumerate(parameters) if type_ == "ptr"}
 
     def parameter(self, name, index):
@@ -203,6 +205,16 @@ class Places:
         follower = getattr(self, f"follow_{kind}", None)
         if follower:
             follower(parts)
+        self.keep_unused(kind, parts)
+
+    def keep_unused(self, kind, parts):
+        """Notes which locals no instruction has named since they were made, in one block."""
+        if kind == "label":
+            self.unused = {}
+        for name in re.findall(NAME, parts.group()):
+            self.unused.pop(name, None)
+        if kind == "alloca":
+            self.unused[parts["to"]] = parts["type"]
 
     def follow_alloca(self, parts):
         self.locals[parts["to"]] = Region(), 0
@@ -234,7 +246,13 @@ class Places:
         self.moves.append((from_, int(parts["bytes"]) if parts["bytes"].isdecimal() else None))
 
     def follow_set(self, parts):
-        self.use(self.place(parts["at"]), int(parts["bytes"]) if parts["bytes"].isdecimal() else None)
+        place = self.place(parts["at"])
+        if not self.is_made_of_zeros(parts):
+            self.use(place, int(parts["bytes"]) if parts["bytes"].isdecimal() else None)
+
+    def is_made_of_zeros(self, parts):
+        """Is all of a local cleared before it is used? Each of its bytes is then 0, and an address of them null, on both targets."""
+        return parts["value"] == "0" and self.unused.get(parts["at"]) == f"[{parts['bytes']} x i8]"
 
     def follow_call(self, parts):
         for index, argument in enumerate(filter(None, parts["arguments"].split(", "))):

@@ -11,8 +11,10 @@ class Unreadable(Exception):
 
 @dataclass(frozen=True)
 class Effect:
-    """`change` is the bytes by which the stack grows, `target` the address that the disassembler prints, `below` the bytes used beyond it."""
+    """`change` is the bytes by which the stack grows, `target` the address that the disassembler prints, `below` the bytes used beyond it, and
+    `indexed` how far below it the start lies from which an index leads into what the function has put there."""
     flow: str
     change: int = 0
     target: int = None
     below: int = 0
+    indexed: int = 0

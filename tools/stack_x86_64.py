@@ -35,6 +35,7 @@ MOVED = re.compile(r"\[rsp([+-])(0x[0-9a-f]+)\]")
 BELOW = re.compile(r"\[[^\]]*\brsp\b[^\]]*-0x")
 RED_ZONE = re.compile(r".*\[rsp-(0x[0-9a-f]+)\]")
 RED_ZONE_BYTES = 128
+INDEXED = re.compile(r".*\[rsp\+(?:%s)\*[1248]-(0x[0-9a-f]+)\]" % "|".join(sorted(WIDE_REGISTERS)))
 
 
 def without_comment(text):
@@ -92,7 +93,10 @@ def moved(mnemonic, operands):
 
 
 def in_red_zone(mnemonic, operands):
-    """A place below the stack pointer, which a function that calls no other may use for 128 bytes."""
+    """A place below the stack pointer, which a function that calls no other may use for 128 bytes; or by an index, from a start that may lie there."""
+    indexed = [INDEXED.fullmatch(operand) for operand in operands if BELOW.search(operand)]
+    if mnemonic in KNOWN and mnemonic != "lea" and all(indexed):
+        return Effect(NEXT, indexed=max(int(place[1], 16) for place in indexed))
     places = [RED_ZONE.fullmatch(operand) for operand in operands if BELOW.search(operand)]
     if mnemonic not in KNOWN or mnemonic == "lea" or not all(places) or any(int(place[1], 16) > RED_ZONE_BYTES for place in places):
         raise Unreadable("a place below the stack pointer")

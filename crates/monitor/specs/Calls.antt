@@ -1,4 +1,4 @@
--- The exports of src/lib.rt as a caller calls them, one after the other (RULES: lists, promises).
+-- The calls of src/lib.rt as a caller calls them, one after the other (RULES: lists, promises).
 use Rattle.std.specs.Prelude.{List, [], ◌∷◌, ◌≡◌, ℕ}
 use Rattle.entries.specs.Entries.{l1, l2}
 use Rattle.rules.specs.Store.{Store}
@@ -15,8 +15,8 @@ use Rattle.rules.specs.Guest.{reads, fetches, writes, guest_outcome}
 use Rattle.rules.specs.Forget.{forget_outcome}
 use Rattle.rules.specs.Steps.{Step, begins, creates, frees, maps, links, unmaps, switches, accesses, acknowledges, forgets}
 
--- promises 1, lists 13: one call of an export, lent an image and a store, by its contract: its step, the store afterwards, its answer, and the byte
--- that it gives (0 where it gives none); the number of blocks hashed and the registers that are left are left out
+-- promises 1, lists 13: one call, lent an image and a store, by its contract: its step, the store afterwards, its answer, and the byte that
+-- it gives (0 where it gives none); the number of blocks hashed and the registers that are left are left out
 pub data Called (golden : List ℕ) (s : Store) : Step → Store → ℕ → ℕ → Type 0 where
   pagemon_begin : {first answer : ℕ} {after : Store} → answer ≡ (begin_outcome s cached_kinds first).answer → after ≡ (begin_outcome s cached_kinds first).after
       → Called golden s (begins cached_kinds first) after answer 0

@@ -1,6 +1,7 @@
-// The calls, exported to C (calls 1, forms 7). Their contracts ask nothing of the caller, and equate the answer, the byte or the number that
-// is given, and all of memory, ledger and fault registers with the rules (promises 1).
+// The calls (calls 1, forms 7), which monitor_c exports to C. Their contracts ask nothing of the caller, and equate the answer, the byte or the
+// number that is given, and all of memory, ledger and fault registers with the rules (promises 1).
 #![tactic(auto)]
+
 ghost use Rattle.std.specs.Prelude.{◌≡◌};
 ghost use Rattle.rules.specs.Begin.{begin_outcome, cached_kinds};
 ghost use Rattle.entries.specs.Entries.{l1, l2};
@@ -21,8 +22,7 @@ use mapping::form::Form;
 use mapping::request::{FIRST_KIND, Request};
 
 // Begin: a region starts at this block, and all its memory kinds are B and C.
-#[unsafe(no_mangle)]
-pub extern "C" fn pagemon_begin(memory: &[u8], ledger: &mut [u8], first: u32) -> u32
+pub fn pagemon_begin(memory: &[u8], ledger: &mut [u8], first: u32) -> u32
     ensures value { result ≡ (begin_outcome (lent memory.now ledger.old) cached_kinds first).answer }
     ensures ledger_after { lent memory.now ledger.new ≡ (begin_outcome (lent memory.now ledger.old) cached_kinds first).after }
 {
@@ -30,13 +30,7 @@ pub extern "C" fn pagemon_begin(memory: &[u8], ledger: &mut [u8], first: u32) ->
 }
 
 // Begin with kinds: a region starts at this block, with these eight memory kinds.
-#[unsafe(no_mangle)]
-pub extern "C" fn pagemon_begin_kinds(
-    memory: &[u8],
-    ledger: &mut [u8],
-    kinds: &[u8],
-    first: u32,
-) -> u32
+pub fn pagemon_begin_kinds(memory: &[u8], ledger: &mut [u8], kinds: &[u8], first: u32) -> u32
     ensures value { result ≡ (begin_outcome (lent memory.now ledger.old) kinds.now first).answer }
     ensures ledger_after { lent memory.now ledger.new ≡ (begin_outcome (lent memory.now ledger.old) kinds.now first).after }
 {
@@ -44,8 +38,7 @@ pub extern "C" fn pagemon_begin_kinds(
 }
 
 // Create L1: the four blocks from a block become an L1 table, with the entries that its bytes hold.
-#[unsafe(no_mangle)]
-pub extern "C" fn pagemon_create_l1(
+pub fn pagemon_create_l1(
     memory: &[u8],
     ledger: &mut [u8],
     golden: &[u8],
@@ -60,8 +53,7 @@ pub extern "C" fn pagemon_create_l1(
 }
 
 // Create L2: a block becomes an L2 block, with the entries that its bytes hold.
-#[unsafe(no_mangle)]
-pub extern "C" fn pagemon_create_l2(
+pub fn pagemon_create_l2(
     memory: &[u8],
     ledger: &mut [u8],
     golden: &[u8],
@@ -76,8 +68,7 @@ pub extern "C" fn pagemon_create_l2(
 }
 
 // Free L1: the table's blocks become data.
-#[unsafe(no_mangle)]
-pub extern "C" fn pagemon_free_l1(memory: &[u8], ledger: &mut [u8], block: u32) -> u32
+pub fn pagemon_free_l1(memory: &[u8], ledger: &mut [u8], block: u32) -> u32
     ensures value { result ≡ (free_outcome l1 (lent memory.now ledger.old) block).answer }
     ensures ledger_after { lent memory.now ledger.new ≡ (free_outcome l1 (lent memory.now ledger.old) block).after }
 {
@@ -85,8 +76,7 @@ pub extern "C" fn pagemon_free_l1(memory: &[u8], ledger: &mut [u8], block: u32) 
 }
 
 // Free L2: the block becomes data.
-#[unsafe(no_mangle)]
-pub extern "C" fn pagemon_free_l2(memory: &[u8], ledger: &mut [u8], block: u32) -> u32
+pub fn pagemon_free_l2(memory: &[u8], ledger: &mut [u8], block: u32) -> u32
     ensures value { result ≡ (free_outcome l2 (lent memory.now ledger.old) block).answer }
     ensures ledger_after { lent memory.now ledger.new ≡ (free_outcome l2 (lent memory.now ledger.old) block).after }
 {
@@ -94,8 +84,7 @@ pub extern "C" fn pagemon_free_l2(memory: &[u8], ledger: &mut [u8], block: u32) 
 }
 
 // Map L1 with a kind: a section of 256 blocks with these rights and the memory kind of this number, at an index of an L1 table.
-#[unsafe(no_mangle)]
-pub extern "C" fn pagemon_map_l1_kind(
+pub fn pagemon_map_l1_kind(
     memory: &mut [u8],
     ledger: &mut [u8],
     golden: &[u8],
@@ -121,8 +110,7 @@ pub extern "C" fn pagemon_map_l1_kind(
 }
 
 // Map L1: the same with kind 0.
-#[unsafe(no_mangle)]
-pub extern "C" fn pagemon_map_l1(
+pub fn pagemon_map_l1(
     memory: &mut [u8],
     ledger: &mut [u8],
     golden: &[u8],
@@ -142,8 +130,7 @@ pub extern "C" fn pagemon_map_l1(
 }
 
 // Map L2 with a kind: a page with these rights and the memory kind of this number, at an index of an L2 block.
-#[unsafe(no_mangle)]
-pub extern "C" fn pagemon_map_l2_kind(
+pub fn pagemon_map_l2_kind(
     memory: &mut [u8],
     ledger: &mut [u8],
     golden: &[u8],
@@ -169,8 +156,7 @@ pub extern "C" fn pagemon_map_l2_kind(
 }
 
 // Map L2: the same with kind 0.
-#[unsafe(no_mangle)]
-pub extern "C" fn pagemon_map_l2(
+pub fn pagemon_map_l2(
     memory: &mut [u8],
     ledger: &mut [u8],
     golden: &[u8],
@@ -190,8 +176,7 @@ pub extern "C" fn pagemon_map_l2(
 }
 
 // Map large with a kind: a large page of sixteen blocks with these rights and the memory kind of this number, in the sixteen words from an index of an L2 block.
-#[unsafe(no_mangle)]
-pub extern "C" fn pagemon_map_large_kind(
+pub fn pagemon_map_large_kind(
     memory: &mut [u8],
     ledger: &mut [u8],
     golden: &[u8],
@@ -217,8 +202,7 @@ pub extern "C" fn pagemon_map_large_kind(
 }
 
 // Map large: the same with kind 0.
-#[unsafe(no_mangle)]
-pub extern "C" fn pagemon_map_large(
+pub fn pagemon_map_large(
     memory: &mut [u8],
     ledger: &mut [u8],
     golden: &[u8],
@@ -238,8 +222,7 @@ pub extern "C" fn pagemon_map_large(
 }
 
 // Link: an L2 table, at an index of an L1 table.
-#[unsafe(no_mangle)]
-pub extern "C" fn pagemon_link(
+pub fn pagemon_link(
     memory: &mut [u8],
     ledger: &mut [u8],
     block: u32,
@@ -254,13 +237,7 @@ pub extern "C" fn pagemon_link(
 }
 
 // Unmap L1: the entry at an index of an L1 table becomes a fault.
-#[unsafe(no_mangle)]
-pub extern "C" fn pagemon_unmap_l1(
-    memory: &mut [u8],
-    ledger: &mut [u8],
-    block: u32,
-    index: u32,
-) -> u32
+pub fn pagemon_unmap_l1(memory: &mut [u8], ledger: &mut [u8], block: u32, index: u32) -> u32
     ensures value { result ≡ (unmap_outcome sections (lent memory.old ledger.old) block index).answer }
     ensures ledger_after { lent memory.new ledger.new ≡ (unmap_outcome sections (lent memory.old ledger.old) block index).after }
 {
@@ -268,13 +245,7 @@ pub extern "C" fn pagemon_unmap_l1(
 }
 
 // Unmap L2: the entry at an index of an L2 block becomes a fault.
-#[unsafe(no_mangle)]
-pub extern "C" fn pagemon_unmap_l2(
-    memory: &mut [u8],
-    ledger: &mut [u8],
-    block: u32,
-    index: u32,
-) -> u32
+pub fn pagemon_unmap_l2(memory: &mut [u8], ledger: &mut [u8], block: u32, index: u32) -> u32
     ensures value { result ≡ (unmap_outcome pages (lent memory.old ledger.old) block index).answer }
     ensures ledger_after { lent memory.new ledger.new ≡ (unmap_outcome pages (lent memory.old ledger.old) block index).after }
 {
@@ -282,13 +253,7 @@ pub extern "C" fn pagemon_unmap_l2(
 }
 
 // Unmap large: the sixteen entries of the large page at an index of an L2 block become faults.
-#[unsafe(no_mangle)]
-pub extern "C" fn pagemon_unmap_large(
-    memory: &mut [u8],
-    ledger: &mut [u8],
-    block: u32,
-    index: u32,
-) -> u32
+pub fn pagemon_unmap_large(memory: &mut [u8], ledger: &mut [u8], block: u32, index: u32) -> u32
     ensures value { result ≡ (unmap_outcome larges (lent memory.old ledger.old) block index).answer }
     ensures ledger_after { lent memory.new ledger.new ≡ (unmap_outcome larges (lent memory.old ledger.old) block index).after }
 {
@@ -296,8 +261,7 @@ pub extern "C" fn pagemon_unmap_large(
 }
 
 // Switch: the L1 table at a block is put in use.
-#[unsafe(no_mangle)]
-pub extern "C" fn pagemon_switch(memory: &[u8], ledger: &mut [u8], block: u32) -> u32
+pub fn pagemon_switch(memory: &[u8], ledger: &mut [u8], block: u32) -> u32
     ensures value { result ≡ (switch_outcome (lent memory.now ledger.old) block).answer }
     ensures ledger_after { lent memory.now ledger.new ≡ (switch_outcome (lent memory.now ledger.old) block).after }
 {
@@ -305,8 +269,7 @@ pub extern "C" fn pagemon_switch(memory: &[u8], ledger: &mut [u8], block: u32) -
 }
 
 // The guest reads the byte at an address; the registers tell of a fault.
-#[unsafe(no_mangle)]
-pub extern "C" fn pagemon_read(
+pub fn pagemon_read(
     memory: &[u8],
     ledger: &[u8],
     registers: &mut [u8],
@@ -322,8 +285,7 @@ pub extern "C" fn pagemon_read(
 }
 
 // The guest fetches the byte at an address, to execute it.
-#[unsafe(no_mangle)]
-pub extern "C" fn pagemon_fetch(
+pub fn pagemon_fetch(
     memory: &[u8],
     ledger: &[u8],
     registers: &mut [u8],
@@ -339,8 +301,7 @@ pub extern "C" fn pagemon_fetch(
 }
 
 // The guest writes a byte at an address.
-#[unsafe(no_mangle)]
-pub extern "C" fn pagemon_write(
+pub fn pagemon_write(
     memory: &mut [u8],
     ledger: &mut [u8],
     registers: &mut [u8],
@@ -355,8 +316,7 @@ pub extern "C" fn pagemon_write(
 }
 
 // Acknowledge: the pending byte of the fault registers is given and cleared. It is lent no store, so that its promise is the same for every one.
-#[unsafe(no_mangle)]
-pub extern "C" fn pagemon_acknowledge(registers: &mut [u8], pending: &mut u8) -> u32
+pub fn pagemon_acknowledge(registers: &mut [u8], pending: &mut u8) -> u32
     ensures value { (s : Store) → result ≡ (acknowledge_outcome s registers.old).answer }
     ensures pending_after { (s : Store) → pending.new ≡ (acknowledge_outcome s registers.old).byte }
     ensures registers_after { registers.new ≡ acknowledge_registers registers.old }
@@ -365,8 +325,7 @@ pub extern "C" fn pagemon_acknowledge(registers: &mut [u8], pending: &mut u8) ->
 }
 
 // Forget: the marks of adjacent blocks are cleared.
-#[unsafe(no_mangle)]
-pub extern "C" fn pagemon_forget(memory: &[u8], ledger: &mut [u8], block: u32, count: u32) -> u32
+pub fn pagemon_forget(memory: &[u8], ledger: &mut [u8], block: u32, count: u32) -> u32
     ensures value { result ≡ (forget_outcome (lent memory.now ledger.old) block count).answer }
     ensures ledger_after { lent memory.now ledger.new ≡ (forget_outcome (lent memory.now ledger.old) block count).after }
 {

@@ -1,4 +1,4 @@
-// The signature of a block in its place: SHA-256 (FIPS 180-4), and the search of a golden image.
+// The signature of a block in its place: SHA-256 (FIPS 180-4), and the search of a golden image. signature_c exports the calls to C.
 #![tactic(auto)]
 
 mod bytes;
@@ -15,8 +15,7 @@ ghost use Rattle.signature.specs.Sha256.{sha256};
 ghost use Rattle.signature.specs.Signed.{block_digest, signed};
 
 // For C and Rust: the digest of a message.
-#[unsafe(no_mangle)]
-pub extern "C" fn signature_sha256(message: &[u8], digest: &mut [u8; 32])
+pub fn signature_sha256(message: &[u8], digest: &mut [u8; 32])
     ensures { digest.new ≡ sha256 message.now }
 {
     let d = digest::sha_256(message);
@@ -24,8 +23,7 @@ pub extern "C" fn signature_sha256(message: &[u8], digest: &mut [u8; 32])
 }
 
 // For C and Rust: the digest of block p with these contents.
-#[unsafe(no_mangle)]
-pub extern "C" fn signature_block_digest(contents: &[u8], p: u32, digest: &mut [u8; 32])
+pub fn signature_block_digest(contents: &[u8], p: u32, digest: &mut [u8; 32])
     ensures { digest.new ≡ block_digest p contents.now }
 {
     let d = golden::block_digest(contents, p);
@@ -33,8 +31,7 @@ pub extern "C" fn signature_block_digest(contents: &[u8], p: u32, digest: &mut [
 }
 
 // For C and Rust: does the golden image sign block p with these contents?
-#[unsafe(no_mangle)]
-pub extern "C" fn signature_is_signed(contents: &[u8], golden: &[u8], p: u32) -> bool
+pub fn signature_is_signed(contents: &[u8], golden: &[u8], p: u32) -> bool
     ensures { result ≡ signed p contents.now golden.now }
 {
     golden::is_signed(contents, golden, p)

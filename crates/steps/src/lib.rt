@@ -1,5 +1,6 @@
-// Lists of steps: records of calls, obeyed one after the other by the monitor's exported calls (RULES: runner).
+// Lists of steps: records of calls, obeyed one after the other by the monitor's calls (RULES: runner); steps_c exports the call to C.
 #![tactic(auto)]
+
 ghost use Rattle.std.specs.Prelude.{◌≡◌, length, take};
 ghost use Rattle.words.specs.Lists.{put_list};
 ghost use Rattle.rules.specs.Store.{lent};
@@ -15,8 +16,7 @@ pub mod step; // step.rt: a step calls the monitor
 
 // Obeys the records up to the first that holds no step, as many as there is room for their answers and bytes, and says how many they were (runner 1,
 // runner 2). Lists 7 to 12 and 14 to 16 hold of what is left and handed out (runner 3).
-#[unsafe(no_mangle)]
-pub extern "C" fn pagemon_run(
+pub fn pagemon_run(
     memory: &mut [u8],
     ledger: &mut [u8],
     golden: &[u8],

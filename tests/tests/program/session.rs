@@ -12,7 +12,7 @@ pub fn repository() -> &'static Path {
     Path::new(concat!(env!("CARGO_MANIFEST_DIR"), "/.."))
 }
 
-/// The program that PAGEMON names, or else the one that `rt check pagemon` builds.
+/// The program that PAGEMON names, or else the one that `./run` builds.
 pub fn program() -> PathBuf {
     repository().join(env::var_os("PAGEMON").unwrap_or("target/bin/pagemon".into()))
 }
