@@ -97,7 +97,7 @@ not_too_long End over = refl
 not_too_long (Later e) over = refl
 not_too_long (Failed e) over = refl
 
-reasons : (arrival : Arrival) (over : Bool) (state : State) (number : ℕ) → state ≡ stands arrival over → is_open state ≡ false → Justified state number (is_bad state)
+pub reasons : (arrival : Arrival) (over : Bool) (state : State) (number : ℕ) → state ≡ stands arrival over → is_open state ≡ false → Justified state number (is_bad state)
 unfolding too_long
 reasons arrival over Open number e o = absurd (false≢true (sym o))
 reasons arrival over Bad number e o = refl

@@ -1,6 +1,8 @@
 // What has arrived on the input, as soon as it has (program 8, program 9).
-ghost use Rattle.std.specs.Prelude.{◌≡◌, ◌+◌, ◌<◌, ◌≤◌, ◌↔◌, IsTrue, IfErr, IfOk, length, take};
+ghost use Rattle.std.specs.Prelude.{◌≡◌, ◌+◌, ◌<◌, ◌≤◌, ◌↔◌, IsTrue, IfErr, IfOk, drop, length, take};
+ghost use Rattle.std.specs.Io.KnownBytes.{Consumes, IsAtEnd};
 ghost use Rattle.pagemon.specs.Conversation.{Fits, IsPassing};
+ghost use Rattle.pagemon.specs.Printed.{brought, is_later};
 
 use std::io::{self, ErrorKind, Read};
 use std::thread;
@@ -45,11 +47,15 @@ fn read_behind<R: Read>(from: &mut R, input: &mut [u8], kept: usize) -> Arrival
     requires { kept ≤ length input.old }
     ensures input_unchanged { take kept input.new ≡ take kept input.old }
     ensures fits { Fits (length input.old) kept result }
+    ensures taken { Consumes (R.remaining from.old) (R.remaining from.new) (brought result (drop kept input.new)) }
+    ensures end { result ≡ Arrival.End → kept < length input.old → IsAtEnd (R.remaining from.new) }
 {
     arrival_of(from.read(&mut input[kept..]))
 }
 
-fn is_later(arrival: Arrival) -> bool {
+fn is_later(arrival: Arrival) -> bool
+    ensures { result ≡ is_later arrival }
+{
     matches!(arrival, Arrival::Later(_))
 }
 
@@ -61,6 +67,8 @@ pub fn receive<R: Read>(from: &mut R, input: &mut [u8], kept: usize) -> Arrival
     requires { kept ≤ length input.old }
     ensures input_unchanged { take kept input.new ≡ take kept input.old }
     ensures fits { Fits (length input.old) kept result }
+    ensures taken { Consumes (R.remaining from.old) (R.remaining from.new) (brought result (drop kept input.new)) }
+    ensures end { result ≡ Arrival.End → kept < length input.old → IsAtEnd (R.remaining from.new) }
 {
     for _ in 0..TRIES {
         let arrival = read_behind(from, input, kept);

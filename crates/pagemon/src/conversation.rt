@@ -8,6 +8,7 @@ ghost use Rattle.transcript.specs.Needs.{Advance};
 ghost use Rattle.transcript.specs.Sessions.{session, told, turned, zeros};
 ghost use Rattle.transcript.specs.Transcript.{batch};
 ghost use Rattle.pagemon.specs.Conversation.{Advanced, Answered, Concluded, Fits, image, is_bad, is_open, most};
+ghost use Rattle.pagemon.specs.Printed.{Printed};
 
 use crate::arrival::{Arrival, receive};
 use crate::output::write_text;
@@ -150,7 +151,8 @@ pub fn converse<R: Read, W: Write>(
 ) -> Conclusion
     requires ledger_value { lent memory.old ledger.old ≡ zeros }
     requires input_len { (length input.old ≡ record_bytes * batch) × (longest_line * (batch + 1) ≤ length text.old) }
-    ensures { Concluded (lent memory.new ledger.new) result.obeyed result.state }
+    ensures concluded { Concluded (lent memory.new ledger.new) result.obeyed result.state }
+    ensures printed { Printed (R.remaining from.old) (R.remaining from.new) (W.contents to.old) (W.contents to.new) (lent memory.new ledger.new) result.obeyed result.state }
 {
     let mut kept = 0;
     let mut obeyed = 0;

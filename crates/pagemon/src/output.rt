@@ -1,5 +1,7 @@
 // The output, and one line on standard error where reading or writing fails (program 8).
-ghost use Rattle.std.specs.Prelude.{true, ◌≡◌, ◌+◌, ◌≤◌, ◌<◌, IfOk, length};
+ghost use Rattle.std.specs.Prelude.{true, ◌≡◌, ◌+◌, ◌≤◌, ◌<◌, IfOk, OnErr, OnOk, length, slice_range, take};
+ghost use Rattle.std.specs.Io.KnownBytes.{Appends, WriteAppends};
+ghost use Rattle.pagemon.specs.Printed.{AppendsPart};
 
 use crate::arrival::{TRIES, is_passing};
 use crate::conversation::State;
@@ -9,7 +11,8 @@ use std::thread;
 // Writes once, some of a text's bytes from a place up to an end, and says how many.
 fn write_once<W: Write>(to: &mut W, text: &[u8], from: usize, end: usize) -> io::Result<usize>
     requires { (from ≤ end) × (end ≤ length text.now) }
-    ensures { IfOk result (λ n. from + n ≤ end) }
+    ensures in_bounds { IfOk result (λ n. from + n ≤ end) }
+    ensures written { WriteAppends (W.contents to.old) (W.contents to.new) result (slice_range text.now from end) }
 {
     to.write(&text[from..end])
 }
@@ -24,6 +27,8 @@ fn may_try_again(error: &io::Error, tries: u64) -> bool
 // Writes the text up to an end, and fails where not all of it was taken. A write that an error stops which passes by itself is tried again.
 pub fn write_text<W: Write>(to: &mut W, text: &[u8], end: usize) -> io::Result<()>
     requires { end ≤ length text.now }
+    ensures written { OnOk result (Appends (W.contents to.old) (W.contents to.new) (take end text.now)) }
+    ensures part { OnErr result (AppendsPart (W.contents to.old) (W.contents to.new) (take end text.now)) }
 {
     let mut from = 0;
     let mut tries = TRIES;
