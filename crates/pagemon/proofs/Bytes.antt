@@ -1,12 +1,12 @@
 -- What a turn takes from the input and gives to the output, where it is known what these hold.
-use Rattle.std.proofs.Common.{◌≡◌, refl, sym, ap, ◌∙◌, subst, Bool, true, false, List, [], ◌++◌, append-nil, append_assoc, ℕ, ◌+◌, ◌-◌, ◌≤◌, length, length-append, take, drop, arith, take-add, take-append-drop, Option}
+use Rattle.std.proofs.Common.{◌≡◌, refl, ap, Bool, true, false, List, [], ◌++◌, append-nil, append_assoc, ℕ, ◌+◌, ◌-◌, ◌≤◌, length, take, drop, arith, take-add, take-append-drop, Option}
 use lib.Seq.{take-take, take-append_seam}
 use Rattle.std.specs.Io.KnownBytes.{Appends, Consumes, IsAtEnd}
 use Rattle.std.specs.List.{slice_range}
 use Rattle.std.specs.declared.io.Error.{Error}
 use mathlib.Core.Bool.{false≢true, true≢false}
 use Rattle.std.proofs.KnownBytes.{Appends-nil, Appends-trans, Consumes-nil, Consumes-trans}
-use Rattle.words.specs.Lists.{part, put_list}
+use Rattle.words.specs.Lists.{part}
 use Rattle.words.proofs.Lists.{length-put_list, part-put_list}
 use Rattle.lines.specs.Stored.{Stored}
 use Rattle.rules.specs.Store.{Store}
@@ -15,7 +15,7 @@ use Rattle.transcript.proofs.Sessions.{sizes_do_not_matter}
 use Rattle.pagemon.specs.declared.arrival.Arrival.{Arrival}
 use Rattle.pagemon.specs.declared.arrival.Arrival.TheVariants.{Bytes, End, Later, Failed}
 use Rattle.pagemon.specs.declared.conversation.State.{State}
-use Rattle.pagemon.specs.declared.conversation.State.TheVariants.{Open, Bad, Ended, ReadFailed, WriteFailed, TooLong}
+use Rattle.pagemon.specs.declared.conversation.State.TheVariants.{WriteFailed, TooLong}
 use Rattle.pagemon.specs.Conversation.{image, next, due, stands, is_open, is_bad, most, Answered, Concluded, Justified}
 use Rattle.pagemon.proofs.Turns.{open_false, reasons}
 use Rattle.pagemon.specs.Printed.{brought, AppendsPart, Written, Exhausted, Exchanged, Printed}

@@ -1,5 +1,5 @@
 -- What the program reads and writes, where it is known what its input has and what its output holds (RULES: program).
-use Rattle.std.specs.Prelude.{Bool, true, false, List, [], ◌++◌, ◌≡◌, ℕ, Option, take}
+use Rattle.std.specs.Prelude.{Bool, true, false, List, [], ◌++◌, ℕ, Option, take}
 use Rattle.std.specs.Io.KnownBytes.{Appends, Consumes, IsAtEnd}
 use Rattle.rules.specs.Store.{Store}
 use Rattle.transcript.specs.Sessions.{Session, session, zeros, closing, Reached, Prints}

@@ -1,5 +1,6 @@
 // Reads records from standard input, obeys them on 16 blocks of zeros with an image without a digest, and prints a line for each (RULES: program).
 #![tactic(auto)]
+
 use crate::conversation::converse;
 use crate::output::report;
 use lines::LONGEST_LINE;

@@ -19,7 +19,7 @@ returns-then-not-is_open g c =
     let closed : is_open c.answer-done.result.state ≡ false = search rules in
     let x = carries c.receive-arrival.ensures.input_unchanged c.loop-obeyed.invariant.2 in
     let p = concludes _ _ _ _ _ _ x c.receive-arrival.ensures.taken a.answered a.end_in_bounds closed
-        (λ e. c.receive-arrival.ensures.end e (omega arith)) c.in_default.ensures.written in
+    (λ e. c.receive-arrival.ensures.end e (omega arith)) c.in_default.ensures.written in
     record { concluded = concluded p; printed = p }
 
 pub loop-obeyed-preserved : goal.loop-obeyed-preserved

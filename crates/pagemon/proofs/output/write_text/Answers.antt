@@ -1,4 +1,3 @@
-use native.Mathlib.Omega.{arith}
 use Rattle.pagemon.proofs.Bytes.{written_more}
 use Rattle.pagemon.proofs.output.write_text.Goals as goal
 
