@@ -1,5 +1,6 @@
 // The calls that change the entries of a mapping or a link, and the switch to a table.
 #![tactic(auto)]
+
 pub mod form; // form.rt: sections, pages and large pages
 pub mod link; // link.rt: link an L2 table
 pub mod map; // map.rt: map a section, a page or a large page

@@ -1,7 +1,7 @@
 -- The records can be cleared one by one: types, counters and marks are stored apart from each other, so the order of the stores is free.
 use mathlib.Core.List.{List}
 use mathlib.Core.Logic.{◌≢◌, ⊎_elim}
-use mathlib.Core.Path.{◌≡◌, refl, ◌∙◌, ap}
+use mathlib.Core.Path.{◌≡◌, refl, sym, ◌∙◌, ap}
 use Prim.Native.Nat.{ℕ, zero, suc, ◌+◌, ◌*◌, ◌<◌, ◌≤◌}
 use native.Mathlib.Nat.{zero-add}
 use native.Mathlib.Numerals.{add-one}
@@ -44,6 +44,23 @@ module _ (led : List ℕ) (t n : ℕ) (f : Counter → ℕ → ℕ) where
   record_comm : (led : List ℕ) → put_counters (put_record_word (clear_marks led 0 n) type_word n t) n (λ c. f c n) ≡ clear_marks (put_counters (put_record_word led type_word n t) n (λ c. f c n)) 0 n
   record_comm led = rw (clear_marks_comm led type_word n t 0 n (omega arith) (λ e. omega arith), counter_comm (put_record_word led type_word n t) writable) (rw (counter_comm _ executable) (counter_comm _ linked))
 
+  type_more : retype led 0 (suc n) t ≡ put_record_word (retype led 0 n t) type_word n t
+  unfolding retype
+  type_more = ap (λ (b : ℕ). put_record_word (retype led 0 n t) type_word b t) (zero-add n)
+
+  one_more : recount (retype led 0 (suc n) t) (suc n) f ≡ put_counters (put_record_word (recount (retype led 0 n t) n f) type_word n t) n (λ c. f c n)
+  unfolding recount
+  one_more =
+      ap (λ (l : List ℕ). put_counters (recount l n f) n (λ c. f c n)) type_more
+      ∙ ap (λ (l : List ℕ). put_counters l n (λ c. f c n)) (type_recount_comm (retype led 0 n t) n t n f)
+
+  marks_more : (l : List ℕ) → clear_marks l 0 (suc n) ≡ clear_mark (clear_marks l 0 n) n
+  unfolding clear_marks
+  marks_more l = ap (λ (b : ℕ). clear_mark (clear_marks l 0 n) b) (zero-add n)
+
   pub cleared_more : clear_mark (put_counters (put_record_word (clear_marks (recount (retype led 0 n t) n f) 0 n) type_word n t) n (λ c. f c n)) n ≡ clear_marks (recount (retype led 0 (n + 1) t) (n + 1) f) 0 (n + 1)
-  unfolding recount retype clear_marks
-  cleared_more = rw (record_comm (recount (retype led 0 n t) n f), add-one, zero-add, type_recount_comm (retype led 0 n t) n t n f) refl
+  cleared_more =
+      let before = recount (retype led 0 n t) n f in
+      rw add-one
+      (ap (λ (l : List ℕ). clear_mark l n) (record_comm before ∙ ap (λ (l : List ℕ). clear_marks l 0 n) (sym one_more))
+      ∙ sym (marks_more (recount (retype led 0 (suc n) t) (suc n) f)))

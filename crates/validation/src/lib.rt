@@ -1,5 +1,6 @@
 // Whether the entries of a table may stand: their forms, places, targets, clashes and signatures.
 #![tactic(auto)]
+
 pub mod cover; // cover.rt: tests of the blocks that one entry covers
 pub mod executed; // executed.rt: refusals 11 and 12 where some entry executes, and the marks of what is executed
 pub mod finding; // finding.rt: what is found of an entry

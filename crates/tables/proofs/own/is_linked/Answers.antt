@@ -1,0 +1,15 @@
+-- The block lies in the region, and its record has the counter.
+use native.Mathlib.Omega.{arith}
+use Rattle.rules.specs.Free.{in_use}
+use Rattle.rules.proofs.State.{fits_stored, within}
+use Rattle.tables.proofs.own.is_linked.Goals as goal
+
+pub record_of-requires : goal.record_of-requires
+record_of-requires c = let fit = fits_stored _ c.requires.fits in (omega arith, (within _ _ _ _ c.requires.table_inside).0)
+
+pub record_word-requires : goal.record_word-requires
+record_word-requires c = let fit = fits_stored _ c.requires.fits in omega (arith, within _ _ _ _ c.requires.table_inside, c.record_of.ensures.is)
+
+pub returns : goal.returns
+unfolding in_use
+returns c = rw (c.record_word.ensures, c.record_of.ensures.is)
