@@ -28,6 +28,7 @@ pub enum Record {
 }
 
 // The step of a call byte and four argument words.
+#[tactic(auto, unfolding(crate::specs::Records::step_of))]
 fn step_of(call: u8, a: u32, b: u32, c: u32, d: u32) -> Record
     ensures { held result ≡ step_of call a b c d }
 {

@@ -1,5 +1,6 @@
 // What the program prints of its input as it arrives (program 4 to 6, program 9).
 #![tactic(auto)]
+
 ghost use Rattle.std.specs.Prelude.{cond, [], ◌≡◌, ◌+◌, ◌-◌, ◌*◌, ◌^◌, ◌<◌, ◌≤◌, drop, length, take};
 ghost use Rattle.lines.specs.Lines.{longest_line, text_of};
 ghost use Rattle.lines.specs.Stored.{Stored};
