@@ -141,6 +141,7 @@ SAME = {
     "two numbers that a function returns": HEAD + TWO_NUMBERS + exported("""  %r0 = call { i32, i32 } @"m::two"(i32 7)
   %r1 = extractvalue { i32, i32 } %r0, 0
   ret void""").removeprefix(HEAD),
+    "a number and a byte that a function returns": HEAD + TWO_NUMBERS.replace("{ i32, i32 }", "{ i32, i8 }") + SLICE + TAIL,
     "numbers of several sizes at one place": exported("""  %r0 = alloca i64, align 8
   store i8 1, ptr %r0, align 1
   %r1 = load i32, ptr %r0, align 4
@@ -197,6 +198,8 @@ REFUSED = {
         "an export with a type on which the calling conventions may differ"),
     "two numbers for one": (HEAD + TWO_NUMBERS + exported('  %r0 = call i64 @"m::two"(i32 7)\n  ret void').removeprefix(HEAD),
                             'a call of @"m::two", which the module does not define with these types'),
+    "a number and a byte for two numbers": (HEAD + TWO_NUMBERS + exported('  %r0 = call { i32, i8 } @"m::two"(i32 7)\n  ret void').removeprefix(HEAD),
+                                            'a call of @"m::two", which the module does not define with these types'),
     "an address that is read as two numbers": (exported("""  %r0 = alloca [8 x i8], align 8
   store ptr %a0, ptr %r0, align 8
   %r1 = load { i32, i32 }, ptr %r0, align 4

@@ -37,7 +37,7 @@ MOST_ALIGNMENT = 8
 NUMBER = r"i(?:1|8|16|32|64)"
 TYPE = rf"(?:{NUMBER}|ptr)"
 # What a function of the module returns to another: two numbers, laid out alike on both targets.
-PAIR = r"\{ i32, i32 \}"
+PAIR = r"\{ i32, i(?:32|8) \}"
 PAIR_BYTES = 8
 NAME = r"%[a-z]+\.?[0-9]*"
 FUNCTION = r'@(?:"[\w:]+"|\w+)'
