@@ -94,6 +94,17 @@ INNER = element("%r4", "%r1", 8) + move("%r4", "%r2", 16)
 STORED = "  store ptr %a0, ptr %r2, align 8\n"
 BOTH = "  %r0 = alloca [8 x i8], align 8\n  %r1 = alloca [32 x i8], align 8\n" + element("%r2", "%r1", 8) + move("%r2", "%r0", 8)
 
+# Constant bytes, and a function that returns two numbers, one of which may have no value.
+CONSTANT = '@static.0 = private unnamed_addr constant [4 x i8] c"a;\\03\\9D", align 1\n'
+TWO_NUMBERS = """define internal noundef { i32, i32 } @"m::two"(i32 %a0) #0 {
+start:
+  %r0 = alloca [8 x i8], align 4
+  store i32 %a0, ptr %r0, align 4
+  %r1 = load { i32, i32 }, ptr %r0, align 4
+  ret { i32, i32 } %r1
+}
+"""
+
 SAME = {
     "a slice that is made, copied and read": HEAD + SLICE + TAIL,
     "an array that is cleared and indexed": exported("""  %r0 = alloca [64 x i8], align 4
@@ -121,6 +132,16 @@ SAME = {
   call void @llvm.memset.p0.i64(ptr %r0, i8 0, i64 16, i1 false)
   store ptr %a0, ptr %r0, align 8
   ret void"""),
+    "bytes that are constant": HEAD + CONSTANT + exported("""  %r0 = alloca ptr, align 8
+  store ptr @static.0, ptr %r0, align 8
+  %r1 = load ptr, ptr %r0, align 8, !noundef !1
+  %r2 = getelementptr inbounds nuw i8, ptr %r1, i64 %a1
+  %r3 = load i8, ptr %r2, align 1, !noundef !1
+  ret void""").removeprefix(HEAD),
+    "two numbers that a function returns": HEAD + TWO_NUMBERS + exported("""  %r0 = call { i32, i32 } @"m::two"(i32 7)
+  %r1 = extractvalue { i32, i32 } %r0, 0
+  ret void""").removeprefix(HEAD),
+    "a number and a byte that a function returns": HEAD + TWO_NUMBERS.replace("{ i32, i32 }", "{ i32, i8 }") + SLICE + TAIL,
     "numbers of several sizes at one place": exported("""  %r0 = alloca i64, align 8
   store i8 1, ptr %r0, align 1
   %r1 = load i32, ptr %r0, align 4
@@ -162,6 +183,29 @@ REFUSED = {
     "a variable of the module": (HEAD + "@v = global i32 0\n" + SLICE + TAIL, FORM),
     "an attribute of the target": ((HEAD + SLICE + TAIL).replace('"target-cpu"="x86-64-v2"', '"target-features"="+sse4"'), FORM),
     "another layout": ((HEAD + SLICE + TAIL).replace("-i64:64-", "-i64:32-"), FORM),
+    "bytes that a function may write": (HEAD + CONSTANT.replace("constant", "global") + SLICE + TAIL, FORM),
+    "a constant of addresses": (HEAD + "@static.0 = private unnamed_addr constant [1 x ptr] [ptr @f], align 8\n" + SLICE + TAIL, FORM),
+    "an address that is read from constant bytes": (HEAD + CONSTANT.replace("[4", "[8").replace("a;", "a;bcde") + exported("""  %r0 = alloca ptr, align 8
+  store ptr @static.0, ptr %r0, align 8
+  %r1 = load ptr, ptr %r0, align 8
+  %r2 = load ptr, ptr %r1, align 8
+  ret void""").removeprefix(HEAD), "an address at a place that is not constant"),
+    "constant bytes that are not there": (exported("  %r0 = alloca ptr, align 8\n  store ptr @static.7, ptr %r0, align 8\n  ret void"), "@static.7 is no place"),
+    "two numbers of other sizes": (HEAD + TWO_NUMBERS.replace("{ i32, i32 }", "{ i32, i64 }") + SLICE + TAIL, FORM),
+    "an address and a number that a function returns": (HEAD + TWO_NUMBERS.replace("{ i32, i32 }", "{ ptr, i32 }") + SLICE + TAIL, FORM),
+    "two numbers that an export returns": (
+        exported("  %r0 = load { i32, i32 }, ptr %a0, align 4\n  ret { i32, i32 } %r0", result="noundef { i32, i32 }"),
+        "an export with a type on which the calling conventions may differ"),
+    "two numbers for one": (HEAD + TWO_NUMBERS + exported('  %r0 = call i64 @"m::two"(i32 7)\n  ret void').removeprefix(HEAD),
+                            'a call of @"m::two", which the module does not define with these types'),
+    "a number and a byte for two numbers": (HEAD + TWO_NUMBERS + exported('  %r0 = call { i32, i8 } @"m::two"(i32 7)\n  ret void').removeprefix(HEAD),
+                                            'a call of @"m::two", which the module does not define with these types'),
+    "an address that is read as two numbers": (exported("""  %r0 = alloca [8 x i8], align 8
+  store ptr %a0, ptr %r0, align 8
+  %r1 = load { i32, i32 }, ptr %r0, align 4
+  ret void"""), NUMBER),
+    "an export whose argument may have no value": (exported("  ret void", "ptr noundef %a0, i64 %a1"),
+                                                   "an export with a type on which the calling conventions may differ"),
     "text for the assembler": (HEAD + 'module asm "nop"\n' + SLICE + TAIL, FORM),
     "a struct that is handed over": (exported("  ret void", "ptr noundef byval([16 x i8]) %a0"), FORM),
     "an address in what C lends": (exported("  %r0 = load ptr, ptr %a0, align 8\n  ret void"), "an address in memory that an export is lent"),

@@ -202,7 +202,7 @@ keeping_kit() {
     local home part
     home=$(kit_home)
     make_scratch
-    kit=$scratch/kit
+    kit=$scratch/keeping
     [ ! -d "$kit" ] || return 0
     mkdir -p "$kit/bin" "$kit/toolchain/bin"
     for part in "$home"/* "$home"/bin/* "$home"/toolchain/* "$home"/toolchain/bin/*; do

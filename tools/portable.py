@@ -36,18 +36,24 @@ MOST_ALIGNMENT = 8
 
 NUMBER = r"i(?:1|8|16|32|64)"
 TYPE = rf"(?:{NUMBER}|ptr)"
+# What a function of the module returns to another: two numbers, laid out alike on both targets.
+PAIR = r"\{ i32, i(?:32|8) \}"
+PAIR_BYTES = 8
 NAME = r"%[a-z]+\.?[0-9]*"
 FUNCTION = r'@(?:"[\w:]+"|\w+)'
 CONSTANT = r"(?:-?[0-9]+|true|false)"
 VALUE = rf"(?:{NAME}|{CONSTANT})"
 LABEL = r"[a-z]+(?:\.[0-9]+)?"
+CONSTANT_NAME = r"@static\.[0-9]+"
 ARGUMENT = rf"{TYPE} {VALUE}"
 ALIGN = r"align (?P<align>[0-9]+)"
 
 INSTRUCTIONS = {kind: re.compile(form) for kind, form in {
     "alloca": rf"(?P<to>{NAME}) = alloca (?P<type>{TYPE}|\[[0-9]{{1,6}} x i8\]), {ALIGN}",
     "load": rf"(?P<to>{NAME}) = load (?P<type>{TYPE}), ptr (?P<at>{NAME}), {ALIGN}(?:, !range !2)?(?:, !noundef !1)?",
-    "store": rf"store (?P<type>{TYPE}) (?P<value>{VALUE}), ptr (?P<at>{NAME}), {ALIGN}",
+    "pair": rf"{NAME} = load {PAIR}, ptr (?P<at>{NAME}), {ALIGN}",
+    "part": rf"{NAME} = extractvalue {PAIR} {NAME}, [01]",
+    "store": rf"store (?P<type>{TYPE}) (?P<value>{VALUE}|{CONSTANT_NAME}), ptr (?P<at>{NAME}), {ALIGN}",
     "element": rf"(?P<to>{NAME}) = getelementptr (?:inbounds nuw )?i8, ptr (?P<at>{NAME}), i64 (?P<value>{VALUE})",
     "arithmetic": rf"{NAME} = (?:add|sub|mul|udiv|urem|and|or|xor|shl|lshr) (?:nuw )?{NUMBER} {VALUE}, {VALUE}",
     "comparison": rf"{NAME} = icmp (?:eq|ne|ult|ule) {NUMBER} {VALUE}, {VALUE}",
@@ -56,19 +62,21 @@ INSTRUCTIONS = {kind: re.compile(form) for kind, form in {
     "move": rf"call void @llvm\.memmove\.p0\.p0\.i64\(ptr (?P<at>{NAME}), ptr (?P<value>{NAME}), i64 (?P<bytes>{VALUE}), i1 false\)",
     "set": rf"call void @llvm\.memset\.p0\.i64\(ptr (?P<at>{NAME}), i8 (?P<value>{VALUE}), i64 (?P<bytes>{VALUE}), i1 false\)",
     "trap": r"call void @llvm\.trap\(\)",
-    "call": rf"(?:{NAME} = )?call (?P<result>void|{NUMBER}) (?P<callee>{FUNCTION})\((?P<arguments>(?:{ARGUMENT}(?:, {ARGUMENT})*)?)\)",
+    "call": rf"(?:{NAME} = )?call (?P<result>void|{NUMBER}|{PAIR}) (?P<callee>{FUNCTION})\((?P<arguments>(?:{ARGUMENT}(?:, {ARGUMENT})*)?)\)",
     "branch": rf"br (?:label %{LABEL}|i1 {VALUE}, label %{LABEL}, label %{LABEL})",
     "switch": rf"switch {NUMBER} {VALUE}, label %{LABEL} \[",
     "arm": rf"{NUMBER} -?[0-9]+, label %{LABEL}",
     "arms": r"\]",
-    "return": rf"ret (?:void|{NUMBER} {VALUE})",
+    "return": rf"ret (?:void|{NUMBER} {VALUE}|{PAIR} {NAME})",
     "unreachable": "unreachable",
     "label": rf"{LABEL}:",
     "end": r"\}",
 }.items()}
 
-PARAMETER = rf"{TYPE} noundef (?:zeroext )?{NAME}"
-DEFINITION = re.compile(rf"define (?P<internal>internal )?(?P<result>void|noundef {NUMBER}|noundef zeroext i1) (?P<name>{FUNCTION})"
+PARAMETER = rf"{TYPE} (?:noundef )?(?:zeroext )?{NAME}"
+# Bytes that nothing writes.
+STATIC = re.compile(rf'(?P<name>{CONSTANT_NAME}) = private unnamed_addr constant \[(?P<bytes>[0-9]{{1,6}}) x i8\] c"(?:[^"\\]|\\[0-9A-F]{{2}})*", align 1')
+DEFINITION = re.compile(rf"define (?P<internal>internal )?(?P<result>void|noundef (?:{NUMBER}|{PAIR})|noundef zeroext i1) (?P<name>{FUNCTION})"
                         rf"\((?P<parameters>(?:{PARAMETER}(?:, {PARAMETER})*)?)\) #0 \{{")
 # What C and the archive agree on in both calling conventions: addresses, words of 32 and 64 bits, and a bool. The names are none of a compiler's own.
 EXPORTED = re.compile(r"(?:ptr|i32|i64) noundef %a[0-9]+")
@@ -93,7 +101,7 @@ OUTSIDE = [re.compile(form) for form in (
 def lines_of(text):
     """The lines that are neither blank nor comments, with their numbers."""
     for number, line in enumerate(text.splitlines(), 1):
-        line = re.sub(r" *;.*", "", line).strip()
+        line = line.strip() if line.startswith("@") else re.sub(r" *;.*", "", line).strip()
         if line:
             yield number, line
 
@@ -162,7 +170,7 @@ class Places:
 
     def __init__(self):
         self.parameters, self.locals, self.alone, self.moves = {}, {}, set(), []
-        self.unused = {}
+        self.unused, self.constants = {}, {}
 
     def enter(self, name, parameters):
         """Starts a function: its parameters are places."""
@@ -174,6 +182,8 @@ class Places:
 
     def place(self, value, type_=None):
         """The place of a value. Where an address stands alone, nothing but an address is loaded and stored."""
+        if value in self.constants:
+            return self.constants[value], 0
         if value not in self.locals:
             raise Refused(f"{value} is no place")
         if value in self.alone and type_ != "ptr":
@@ -215,6 +225,9 @@ class Places:
             self.unused.pop(name, None)
         if kind == "alloca":
             self.unused[parts["to"]] = parts["type"]
+
+    def follow_pair(self, parts):
+        self.use(self.place(parts["at"]), PAIR_BYTES)
 
     def follow_alloca(self, parts):
         self.locals[parts["to"]] = Region(), 0
@@ -308,13 +321,16 @@ class Reader:
             self.read_inside(*read_instruction(line))
         elif definition := DEFINITION.fullmatch(line):
             self.start(definition)
+        elif static := STATIC.fullmatch(line):
+            region = self.places.constants.setdefault(static["name"], Region())
+            self.places.use((region, 0), int(static["bytes"]))
         elif line not in (f'target datalayout = "{LAYOUT}"', f'target triple = "{TRIPLE}"') and not any(form.fullmatch(line) for form in OUTSIDE):
             raise Refused("no form that is the same on both targets")
 
     def start(self, definition):
         self.inside = True
         parameters = parameters_of(definition)
-        self.defined[definition["name"]] = definition["result"].split(" ")[-1], tuple(type_ for type_, _ in parameters)
+        self.defined[definition["name"]] = re.sub("noundef |zeroext ", "", definition["result"]), tuple(type_ for type_, _ in parameters)
         if not definition["internal"]:
             check_export(definition)
             self.exports.append(definition["name"].lstrip("@"))
@@ -336,7 +352,7 @@ class Reader:
         for callee, result, types in sorted(self.called):
             if self.defined.get(callee) != (result, types):
                 raise Refused(f"a call of {callee}, which the module does not define with these types")
-        self.places.check([*self.regions, *self.places.parameters.values()])
+        self.places.check([*self.regions, *self.places.parameters.values(), *self.places.constants.values()])
         if any(found(region)[0].addresses for region in self.lent):
             raise Refused("an address in memory that an export is lent")
 

@@ -138,7 +138,8 @@ def place(instruction, _start=0):
 
 
 TABLE_ENTRY_BYTES = 4
-TABLE_STEPS = (4, 5)
+TABLE_STEPS = (4, 5, 6)
+PLAIN_LOAD = re.compile(r"[DQ]WORD PTR \[[^\]]*\]")
 TABLE_FORM = re.compile(r"lea (?P<base>r\w+),\[rip\+0x0\]\n"
                         r"movsxd (?P<to>r\w+),DWORD PTR \[(?P=base)\+r\w+\*4\]\n"
                         r"add (?P=to),(?P=base)\n"
@@ -149,17 +150,19 @@ WHOLE = {**{name: name for name in WIDE_REGISTERS}, **{"e" + name[1:] if name[1]
 
 
 def is_aside(text, jump):
-    """The instruction moves or clears whole registers, none of which the jump uses."""
+    """The instruction loads, moves or clears whole registers, none of which the jump uses."""
     mnemonic, operands = parts(text)
     kept = parts(jump)[1]
+    if mnemonic == "mov" and PLAIN_LOAD.fullmatch(operands[1]):
+        operands = operands[:1]
     return mnemonic in ("mov", "xor") and all(WHOLE.get(operand, kept[0]) not in kept for operand in operands)
 
 
 def table_base(instructions):
     """Symbol and offset of the table by which the last of these four instructions jumps: entries are distances from the table's start. Before the
-    jump a fifth may stand that has nothing to do with it."""
-    if len(instructions) == 5 and is_aside(instructions[3].text, instructions[4].text):
-        instructions = instructions[:3] + instructions[4:]
+    jump two more may stand that have nothing to do with it."""
+    if all(is_aside(aside.text, instructions[-1].text) for aside in instructions[3:-1]):
+        instructions = instructions[:3] + instructions[-1:]
     plain = "\n".join(" ".join(without_comment(i.text).split()) for i in instructions)
     form = TABLE_FORM.fullmatch(plain)
     if not form or form["base"] == form["to"] or not instructions[0].relocation:
