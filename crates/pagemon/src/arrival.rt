@@ -43,14 +43,14 @@ fn arrival_of(got: io::Result<usize>) -> Arrival
 }
 
 // Reads once, behind the bytes that are kept.
-fn read_behind<R: Read>(from: &mut R, input: &mut [u8], kept: usize) -> Arrival
+fn read_behind<R: Read>(reader: &mut R, input: &mut [u8], kept: usize) -> Arrival
     requires { kept ≤ length input.old }
     ensures input_unchanged { take kept input.new ≡ take kept input.old }
     ensures fits { Fits (length input.old) kept result }
-    ensures taken { Consumes (R.remaining from.old) (R.remaining from.new) (brought result (drop kept input.new)) }
-    ensures end { result ≡ Arrival.End → kept < length input.old → IsAtEnd (R.remaining from.new) }
+    ensures taken { Consumes (R.remaining reader.old) (R.remaining reader.new) (brought result (drop kept input.new)) }
+    ensures end { result ≡ Arrival.End → kept < length input.old → IsAtEnd (R.remaining reader.new) }
 {
-    arrival_of(from.read(&mut input[kept..]))
+    arrival_of(reader.read(&mut input[kept..]))
 }
 
 fn is_later(arrival: Arrival) -> bool
@@ -63,15 +63,15 @@ fn is_later(arrival: Arrival) -> bool
 pub const TRIES: u64 = 0xFFFF_FFFF_FFFF_FFFF;
 
 // Reads behind the bytes that are kept, again where an error passes by itself.
-pub fn receive<R: Read>(from: &mut R, input: &mut [u8], kept: usize) -> Arrival
+pub fn receive<R: Read>(reader: &mut R, input: &mut [u8], kept: usize) -> Arrival
     requires { kept ≤ length input.old }
     ensures input_unchanged { take kept input.new ≡ take kept input.old }
     ensures fits { Fits (length input.old) kept result }
-    ensures taken { Consumes (R.remaining from.old) (R.remaining from.new) (brought result (drop kept input.new)) }
-    ensures end { result ≡ Arrival.End → kept < length input.old → IsAtEnd (R.remaining from.new) }
+    ensures taken { Consumes (R.remaining reader.old) (R.remaining reader.new) (brought result (drop kept input.new)) }
+    ensures end { result ≡ Arrival.End → kept < length input.old → IsAtEnd (R.remaining reader.new) }
 {
     for _ in 0..TRIES {
-        let arrival = read_behind(from, input, kept);
+        let arrival = read_behind(reader, input, kept);
         if !is_later(arrival) {
             return arrival;
         }

@@ -142,8 +142,8 @@ pub struct Conclusion {
 
 // Obeys and answers what arrives, until a record is bad, the input ends, reading or writing fails, or the records are as many as they may be.
 pub fn converse<R: Read, W: Write>(
-    from: &mut R,
-    to: &mut W,
+    reader: &mut R,
+    writer: &mut W,
     memory: &mut [u8],
     ledger: &mut [u8],
     input: &mut [u8],
@@ -152,14 +152,14 @@ pub fn converse<R: Read, W: Write>(
     requires ledger_value { lent memory.old ledger.old ≡ zeros }
     requires input_len { (length input.old ≡ record_bytes * batch) × (longest_line * (batch + 1) ≤ length text.old) }
     ensures concluded { Concluded (lent memory.new ledger.new) result.obeyed result.state }
-    ensures printed { Printed (R.remaining from.old) (R.remaining from.new) (W.contents to.old) (W.contents to.new) (lent memory.new ledger.new) result.obeyed result.state }
+    ensures printed { Printed (R.remaining reader.old) (R.remaining reader.new) (W.contents writer.old) (W.contents writer.new) (lent memory.new ledger.new) result.obeyed result.state }
 {
     let mut kept = 0;
     let mut obeyed = 0;
     while obeyed < MOST {
-        let arrival = receive(from, input, kept);
+        let arrival = receive(reader, input, kept);
         let done = answer(arrival, memory, ledger, input, kept, obeyed, text);
-        if let Err(error) = write_text(to, text, done.end) {
+        if let Err(error) = write_text(writer, text, done.end) {
             return Conclusion {
                 state: State::WriteFailed(error),
                 obeyed: done.obeyed,

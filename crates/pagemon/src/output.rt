@@ -9,12 +9,12 @@ use std::io::{self, Cursor, ErrorKind, Write};
 use std::thread;
 
 // Writes once, some of a text's bytes from a place up to an end, and says how many.
-fn write_once<W: Write>(to: &mut W, text: &[u8], from: usize, end: usize) -> io::Result<usize>
+fn write_once<W: Write>(writer: &mut W, text: &[u8], from: usize, end: usize) -> io::Result<usize>
     requires { (from ≤ end) × (end ≤ length text.now) }
     ensures in_bounds { IfOk result (λ n. from + n ≤ end) }
-    ensures written { WriteAppends (W.contents to.old) (W.contents to.new) result (slice_range text.now from end) }
+    ensures written { WriteAppends (W.contents writer.old) (W.contents writer.new) result (slice_range text.now from end) }
 {
-    to.write(&text[from..end])
+    writer.write(&text[from..end])
 }
 
 // Whether a write that took nothing is worth another try.
@@ -25,15 +25,15 @@ fn may_try_again(error: &io::Error, tries: u64) -> bool
 }
 
 // Writes the text up to an end, and fails where not all of it was taken. A write that an error stops which passes by itself is tried again.
-pub fn write_text<W: Write>(to: &mut W, text: &[u8], end: usize) -> io::Result<()>
+pub fn write_text<W: Write>(writer: &mut W, text: &[u8], end: usize) -> io::Result<()>
     requires { end ≤ length text.now }
-    ensures written { OnOk result (Appends (W.contents to.old) (W.contents to.new) (take end text.now)) }
-    ensures part { OnErr result (AppendsPart (W.contents to.old) (W.contents to.new) (take end text.now)) }
+    ensures written { OnOk result (Appends (W.contents writer.old) (W.contents writer.new) (take end text.now)) }
+    ensures part { OnErr result (AppendsPart (W.contents writer.old) (W.contents writer.new) (take end text.now)) }
 {
     let mut from = 0;
     let mut tries = TRIES;
     while from < end {
-        match write_once(to, text, from, end) {
+        match write_once(writer, text, from, end) {
             Ok(0) => return Err(ErrorKind::WriteZero.into()),
             Ok(n) => from += n,
             Err(e) => {
@@ -45,7 +45,7 @@ pub fn write_text<W: Write>(to: &mut W, text: &[u8], end: usize) -> io::Result<(
             }
         }
     }
-    to.flush()
+    writer.flush()
 }
 
 // The most bytes of an error's text that are said.

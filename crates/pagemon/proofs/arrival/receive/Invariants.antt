@@ -5,4 +5,4 @@ use Rattle.pagemon.proofs.arrival.receive.Given as goal
 
 abbrev pub invariant-loop : goal.invariant-loop
 invariant-loop g l =
-    (take l.kept l.input ≡ take l.kept l.initial.input) × Consumes (g.R.Read.remaining l.initial.from) (g.R.Read.remaining l.from) []
+    (take l.kept l.input ≡ take l.kept l.initial.input) × Consumes (g.R.Read.remaining l.initial.reader) (g.R.Read.remaining l.reader) []

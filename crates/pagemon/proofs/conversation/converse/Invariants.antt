@@ -12,7 +12,7 @@ abbrev pub invariant-loop-obeyed : goal.invariant-loop-obeyed
 invariant-loop-obeyed g l =
     (l.kept < record_bytes)
     × (l.obeyed ≤ most + batch)
-    × Exchanged (g.R.Read.remaining l.initial.from) (g.R.Read.remaining l.from) (g.W.Write.contents l.initial.to) (g.W.Write.contents l.to)
+    × Exchanged (g.R.Read.remaining l.initial.reader) (g.R.Read.remaining l.reader) (g.W.Write.contents l.initial.writer) (g.W.Write.contents l.writer)
     (session (lent l.memory l.ledger) (take l.kept l.input) l.obeyed false)
 
 abbrev pub decreases-loop-obeyed : goal.decreases-loop-obeyed

@@ -1,4 +1,5 @@
-use Rattle.pagemon.proofs.Bytes.{written_more}
+-- What a write took stands behind what was written before.
+use Rattle.pagemon.proofs.Exchange.{written_more}
 use Rattle.pagemon.proofs.output.write_text.Goals as goal
 
 pub loop-from-preserved-in-Ok : goal.loop-from-preserved-in-Ok

@@ -5,7 +5,7 @@ use Rattle.pagemon.proofs.output.write_text.Given as goal
 
 abbrev pub invariant-loop-from : goal.invariant-loop-from
 invariant-loop-from g l =
-    (l.from ≤ l.end) × Appends (g.W.Write.contents l.initial.to) (g.W.Write.contents l.to) (take l.from l.text)
+    (l.from ≤ l.end) × Appends (g.W.Write.contents l.initial.writer) (g.W.Write.contents l.writer) (take l.from l.text)
 
 abbrev pub decreases-loop-from : goal.decreases-loop-from
 decreases-loop-from g l = (l.end - l.from) + l.tries

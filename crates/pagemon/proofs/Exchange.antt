@@ -1,10 +1,10 @@
--- What a turn takes from the input and gives to the output, where it is known what these hold.
+-- What the program takes from its input and gives to its output, where it is known what these hold.
 use Rattle.std.proofs.Common.{◌≡◌, refl, ap, Bool, true, false, List, [], ◌++◌, append-nil, append_assoc, ℕ, ◌+◌, ◌-◌, ◌≤◌, length, take, drop, arith, take-add, take-append-drop, Option}
+use mathlib.Core.Bool.{false≢true, true≢false}
 use lib.Seq.{take-take, take-append_seam}
+use Rattle.std.specs.declared.io.Error.{Error}
 use Rattle.std.specs.Io.KnownBytes.{Appends, Consumes, IsAtEnd}
 use Rattle.std.specs.List.{slice_range}
-use Rattle.std.specs.declared.io.Error.{Error}
-use mathlib.Core.Bool.{false≢true, true≢false}
 use Rattle.std.proofs.KnownBytes.{Appends-nil, Appends-trans, Consumes-nil, Consumes-trans}
 use Rattle.words.specs.Lists.{part}
 use Rattle.words.proofs.Lists.{length-put_list, part-put_list}
@@ -17,12 +17,12 @@ use Rattle.pagemon.specs.declared.arrival.Arrival.TheVariants.{Bytes, End, Later
 use Rattle.pagemon.specs.declared.conversation.State.{State}
 use Rattle.pagemon.specs.declared.conversation.State.TheVariants.{WriteFailed, TooLong}
 use Rattle.pagemon.specs.Conversation.{image, next, due, stands, is_open, is_bad, most, Answered, Concluded, Justified}
-use Rattle.pagemon.proofs.Turns.{open_false, reasons}
 use Rattle.pagemon.specs.Printed.{brought, AppendsPart, Written, Exhausted, Exchanged, Printed}
+use Rattle.pagemon.proofs.Turns.{open_false, reasons}
 
 -- Parts of texts
 
--- what was written of a text, and some of what is left
+-- what was written of a text, and then some of what is left of it
 pub written_more : (held held' held'' : Option (List ℕ)) (text : List ℕ) (from n end : ℕ) → from + n ≤ end → Appends held held' (take from text)
     → Appends held' held'' (take n (slice_range text from end)) → Appends held held'' (take (from + n) text)
 written_more held held' held'' text from n end h p q =
@@ -30,7 +30,7 @@ written_more held held' held'' text from n end h p q =
     rw (take-add from n text, ← same) (Appends-trans held held' held'' _ _ p q)
 
 -- what is stored at the front of a text
-pub stored_front : (before ys text : List ℕ) (end : ℕ) → Stored before 0 ys text end → end ≤ length text → take end text ≡ ys
+stored_front : (before ys text : List ℕ) (end : ℕ) → Stored before 0 ys text end → end ≤ length text → take end text ≡ ys
 unfolding part
 stored_front before ys text end s h =
     let long = length-put_list before 0 ys in
@@ -50,9 +50,9 @@ part_of_more held held' text more (n, q) =
     let whole : text ++ more ≡ front ++ (drop n text ++ more) = rw (← append_assoc, take-append-drop n text) refl in
     (length front, rw (whole, take-append_seam front (drop n text ++ more)) q)
 
--- Turns
+-- A turn
 
--- what the program has read and written when it ends, at a session and where it stands then
+-- what has been read and written at a session, where the program ends so
 record Finished (left left' held held' : Option (List ℕ)) (now : Session) (state : State) : Type 0 where
   input : List ℕ
   text : List ℕ
@@ -61,41 +61,21 @@ record Finished (left left' held held' : Option (List ℕ)) (now : Session) (sta
   all : Exhausted state left'
   written : Written state held held' text (closing now)
 
-module _ {left left' held held' : Option (List ℕ)} where
-  -- by the same bytes that are not obeyed yet
-  pub carries : {s : Store} {rest rest' : List ℕ} {number : ℕ} → rest' ≡ rest → Exchanged left left' held held' (session s rest number false)
-      → Exchanged left left' held held' (session s rest' number false)
-  carries e x = rw e x
-
-  printed : {s : Store} {rest : List ℕ} {number : ℕ} {over : Bool} {state : State} → Finished left left' held held' (session s rest number over) state
-      → Justified state number over → Printed left left' held held' s number state
-  printed f reason = record {
-    input = f.input;
-    text = f.text;
-    rest = _;
-    over = _;
-    prints = sizes_do_not_matter image zeros f.input f.text _ f.reached;
-    reached = f.reached;
-    reason = reason;
-    taken = f.taken;
-    all = f.all;
-    written = f.written;
-  }
-
-pub exchange_starts : {s : Store} (left held : Option (List ℕ)) (input : List ℕ) → s ≡ zeros → Exchanged left left held held (session s (take 0 input) 0 false)
-exchange_starts left held input e =
-    rw e (record { input = []; text = []; reached = started; taken = Consumes-nil left; written = Appends-nil held })
-
-module _ (left left' left'' held held' held'' : Option (List ℕ)) {before : Session} (behind : List ℕ) (x : Exchanged left left' held held' before) where
+module _ (left left' left'' held held' held'' : Option (List ℕ)) {before : Session} (going : before.over ≡ false) (behind : List ℕ)
+    (x : Exchanged left left' held held' before) where
   taken_nothing : Consumes left' left'' [] → Consumes left left'' x.input
   taken_nothing t = rw append-nil at (Consumes-trans left left' left'' x.input [] x.taken t)
 
   written_nothing : Appends held' held'' [] → Appends held held'' x.text
   written_nothing w = rw append-nil at (Appends-trans held held' held'' x.text [] x.written w)
 
-  fails : before.over ≡ false → (arrival : Arrival) (error : Error) → Consumes left' left'' (brought arrival behind) → AppendsPart held' held'' (due arrival before behind)
+  part_of_nothing : AppendsPart held' held'' [] → AppendsPart held held'' (x.text ++ closing before)
+  part_of_nothing w = part_of_more held held'' x.text _ (rw append-nil at (part_behind held held' held'' x.text [] x.written w))
+
+  -- where the write fails
+  fails : (arrival : Arrival) (error : Error) → Consumes left' left'' (brought arrival behind) → AppendsPart held' held'' (due arrival before behind)
       → Finished left left'' held held'' (next arrival before behind) (WriteFailed error)
-  fails going (Bytes n) error t w = record {
+  fails (Bytes n) error t w = record {
     input = _;
     text = _;
     reached = arrived x.reached going (take n behind);
@@ -103,7 +83,7 @@ module _ (left left' left'' held held' held'' : Option (List ℕ)) {before : Ses
     all = tt;
     written = part_of_more held held'' _ _ (part_behind held held' held'' x.text _ x.written w);
   }
-  fails going End error t w = record {
+  fails End error t w = record {
     input = x.input;
     text = x.text;
     reached = x.reached;
@@ -111,73 +91,87 @@ module _ (left left' left'' held held' held'' : Option (List ℕ)) {before : Ses
     all = tt;
     written = part_behind held held' held'' x.text _ x.written w;
   }
-  fails going (Later _) error t w = record {
+  fails (Later _) error t w = record {
     input = x.input;
     text = x.text;
     reached = x.reached;
     taken = taken_nothing t;
     all = tt;
-    written = part_of_more held held'' x.text _ (rw append-nil at (part_behind held held' held'' x.text [] x.written w));
+    written = part_of_nothing w;
   }
-  fails going (Failed _) error t w = record {
+  fails (Failed _) error t w = record {
     input = x.input;
     text = x.text;
     reached = x.reached;
     taken = taken_nothing t;
     all = tt;
-    written = part_of_more held held'' x.text _ (rw append-nil at (part_behind held held' held'' x.text [] x.written w));
+    written = part_of_nothing w;
   }
 
-  closes : before.over ≡ false → (arrival : Arrival) (over : Bool) {state : State} → state ≡ stands arrival over → is_open state ≡ false
-      → Consumes left' left'' (brought arrival behind) → (arrival ≡ End → IsAtEnd left'') → Appends held' held'' (due arrival before behind)
-      → Finished left left'' held held'' (next arrival before behind) state
-  closes going (Bytes n) true e o t end w = rw e (record {
-    input = _;
-    text = _;
-    reached = arrived x.reached going (take n behind);
-    taken = Consumes-trans left left' left'' x.input (take n behind) x.taken t;
-    all = tt;
-    written = Appends-trans held held' held'' x.text _ x.written w;
-  })
-  closes going (Bytes n) false e o t end w = absurd (true≢false (rw e at o))
-  closes going End over e o t end w = rw e (record {
-    input = x.input;
-    text = x.text;
-    reached = x.reached;
-    taken = taken_nothing t;
-    all = end refl;
-    written = Appends-trans held held' held'' x.text _ x.written w;
-  })
-  closes going (Later _) over e o t end w = rw e (record {
-    input = x.input;
-    text = x.text;
-    reached = x.reached;
-    taken = taken_nothing t;
-    all = tt;
-    written = written_nothing w;
-  })
-  closes going (Failed _) over e o t end w = rw e (record {
-    input = x.input;
-    text = x.text;
-    reached = x.reached;
-    taken = taken_nothing t;
-    all = tt;
-    written = written_nothing w;
-  })
+  -- where the program ends by what the read came to
+  closes : (arrival : Arrival) (over : Bool) {state : State} → state ≡ stands arrival over → is_open state ≡ false → Consumes left' left'' (brought arrival behind)
+      → (arrival ≡ End → IsAtEnd left'') → Appends held' held'' (due arrival before behind) → Finished left left'' held held'' (next arrival before behind) state
+  closes (Bytes n) true e o t end w =
+      rw e (record {
+        input = _;
+        text = _;
+        reached = arrived x.reached going (take n behind);
+        taken = Consumes-trans left left' left'' x.input (take n behind) x.taken t;
+        all = tt;
+        written = Appends-trans held held' held'' x.text _ x.written w;
+      })
+  closes (Bytes n) false e o t end w = absurd (true≢false (rw e at o))
+  closes End over e o t end w =
+      rw e (record {
+        input = x.input;
+        text = x.text;
+        reached = x.reached;
+        taken = taken_nothing t;
+        all = end refl;
+        written = Appends-trans held held' held'' x.text _ x.written w;
+      })
+  closes (Later _) over e o t end w =
+      rw e (record { input = x.input; text = x.text; reached = x.reached; taken = taken_nothing t; all = tt; written = written_nothing w })
+  closes (Failed _) over e o t end w =
+      rw e (record { input = x.input; text = x.text; reached = x.reached; taken = taken_nothing t; all = tt; written = written_nothing w })
 
-  goes_on : before.over ≡ false → (arrival : Arrival) (over : Bool) → is_open (stands arrival over) ≡ true
-      → Consumes left' left'' (brought arrival behind) → Appends held' held'' (due arrival before behind)
-      → Exchanged left left'' held held'' (next arrival before behind)
-  goes_on going (Bytes n) over o t w = record {
+  goes_on : (arrival : Arrival) (over : Bool) → is_open (stands arrival over) ≡ true → Consumes left' left'' (brought arrival behind)
+      → Appends held' held'' (due arrival before behind) → Exchanged left left'' held held'' (next arrival before behind)
+  goes_on (Bytes n) over o t w = record {
     input = _;
     text = _;
     reached = arrived x.reached going (take n behind);
     taken = Consumes-trans left left' left'' x.input (take n behind) x.taken t;
     written = Appends-trans held held' held'' x.text _ x.written w;
   }
-  goes_on going End over o t w = absurd (false≢true o)
-  goes_on going (Later _) over o t w = absurd (false≢true o)
-  goes_on going (Failed _) over o t w = absurd (false≢true o)
+  goes_on End over o t w = absurd (false≢true o)
+  goes_on (Later _) over o t w = absurd (false≢true o)
+  goes_on (Failed _) over o t w = absurd (false≢true o)
+
+-- The session
+
+pub starts : {s : Store} (left held : Option (List ℕ)) (input : List ℕ) → s ≡ zeros → Exchanged left left held held (session s (take 0 input) 0 false)
+starts left held input e = rw e (record { input = []; text = []; reached = started; taken = Consumes-nil left; written = Appends-nil held })
+
+-- by the same bytes that are not obeyed yet
+pub carried : {left left' held held' : Option (List ℕ)} {s : Store} {rest rest' : List ℕ} {number : ℕ} → rest' ≡ rest
+    → Exchanged left left' held held' (session s rest number false) → Exchanged left left' held held' (session s rest' number false)
+carried e x = rw e x
+
+printed : {left left' held held' : Option (List ℕ)} {s : Store} {rest : List ℕ} {number : ℕ} {over : Bool} {state : State}
+    → Finished left left' held held' (session s rest number over) state → Justified state number over → Printed left left' held held' s number state
+printed f reason = record {
+  input = f.input;
+  text = f.text;
+  rest = _;
+  over = _;
+  prints = sizes_do_not_matter image zeros f.input f.text _ f.reached;
+  reached = f.reached;
+  reason = reason;
+  taken = f.taken;
+  all = f.all;
+  written = f.written;
+}
 
 module _ (left left' left'' held held' held'' : Option (List ℕ)) {s after : Store} {rest rest' behind text₀ text : List ℕ} {number number' end : ℕ} {state : State} {arrival : Arrival}
     (x : Exchanged left left' held held' (session s rest number false)) (t : Consumes left' left'' (brought arrival behind))
@@ -188,25 +182,25 @@ module _ (left left' left'' held held' held'' : Option (List ℕ)) {s after : St
   pub breaks_off : (error : Error) → AppendsPart held' held'' (take end text) → Printed left left'' held held'' after number' (WriteFailed error)
   breaks_off error w =
       let finished : Finished left left'' held held'' (session after rest' number' (is_bad state)) (WriteFailed error) =
-      rw a.session_is (fails left left' left'' held held' held'' behind x refl arrival error t (rw due_is at w)) in
+      rw a.session_is (fails left left' left'' held held' held'' refl behind x arrival error t (rw due_is at w)) in
       printed finished tt
 
   pub concludes : is_open state ≡ false → (arrival ≡ End → IsAtEnd left'') → Appends held' held'' (take end text) → Printed left left'' held held'' after number' state
   concludes closed ended w =
       let finished : Finished left left'' held held'' (session after rest' number' (is_bad state)) state =
-      rw a.session_is (closes left left' left'' held held' held'' behind x refl arrival (is_bad state) a.state_is closed t ended (rw due_is at w)) in
+      rw a.session_is (closes left left' left'' held held' held'' refl behind x arrival (is_bad state) a.state_is closed t ended (rw due_is at w)) in
       printed finished (reasons arrival (is_bad state) state number' a.state_is closed)
 
   pub stays_open : is_open state ≡ true → Appends held' held'' (take end text) → Exchanged left left'' held held'' (session after rest' number' false)
   stays_open going w =
-      let on = goes_on left left' left'' held held' held'' behind x refl arrival (is_bad state) (rw a.state_is at going) t (rw due_is at w) in
+      let on = goes_on left left' left'' held held' held'' refl behind x arrival (is_bad state) (rw a.state_is at going) t (rw due_is at w) in
       let same : Exchanged left left'' held held'' (session after rest' number' (is_bad state)) = rw a.session_is on in
       rw (open_false state going) at same
 
-module _ {left left' held held' : Option (List ℕ)} {s : Store} {rest : List ℕ} {number : ℕ} (x : Exchanged left left' held held' (session s rest number false)) where
-  pub too_long_printed : most ≤ number → Printed left left' held held' s number TooLong
-  too_long_printed h = printed (record { input = x.input; text = x.text; reached = x.reached; taken = x.taken; all = tt; written = x.written }) (refl, h)
+pub runs_out : {left left' held held' : Option (List ℕ)} {s : Store} {rest : List ℕ} {number : ℕ} → Exchanged left left' held held' (session s rest number false)
+    → most ≤ number → Printed left left' held held' s number TooLong
+runs_out x h = printed (record { input = x.input; text = x.text; reached = x.reached; taken = x.taken; all = tt; written = x.written }) (refl, h)
 
--- the session of what was read and written
+-- what was read and written is a reason for what is left
 pub concluded : {left left' held held' : Option (List ℕ)} {s : Store} {number : ℕ} {state : State} → Printed left left' held held' s number state → Concluded s number state
 concluded p = record { rest = p.rest; over = p.over; underway = record { input = p.input; text = p.text; reached = p.reached }; reason = p.reason }
