@@ -6,6 +6,7 @@ use Prim.Native.Nat.{ℕ, ◌+◌, ◌≤◌, ◌<◌}
 use native.Mathlib.Omega.{arith}
 use lib.ListN.{length, take, drop}
 use lib.Seq.{take-add, length-take-le}
+use Rattle.std.specs.declared.io.Error.{Error}
 use Rattle.words.specs.Lists.{put_list}
 use Rattle.lines.specs.Stored.{Stored}
 use Rattle.rules.specs.Store.{Store}
@@ -35,8 +36,8 @@ pub open_false : (state : State) → is_open state ≡ true → is_bad state ≡
 open_false Open o = refl
 open_false Bad o = absurd (false≢true o)
 open_false Ended o = absurd (false≢true o)
-open_false ReadFailed o = absurd (false≢true o)
-open_false WriteFailed o = absurd (false≢true o)
+open_false (ReadFailed e) o = absurd (false≢true o)
+open_false (WriteFailed e) o = absurd (false≢true o)
 open_false TooLong o = absurd (false≢true o)
 
 pub advanced : {obeyed kept n obeyed' kept' : ℕ} (state : State) → 0 < n → Advance obeyed (kept + n) kept' obeyed' (is_bad state) → is_open state ≡ true
@@ -56,11 +57,11 @@ module _ (s : Store) (input : List ℕ) (kept number : ℕ) {arrival : Arrival} 
   unfolding closing
   ended_turn e h t = rw e (record { session_is = refl; text_is = rw (length-take-le kept input h) t; state_is = refl })
 
-  pub later_turn : arrival ≡ Later → Answered arrival (session s (take kept input) number false) (drop kept input) text₀ (session s (take kept input) number false) text₀ 0 ReadFailed
+  pub later_turn : {error : Error} → arrival ≡ Later error → Answered arrival (session s (take kept input) number false) (drop kept input) text₀ (session s (take kept input) number false) text₀ 0 (ReadFailed error)
   unfolding put_list
   later_turn e = rw e (record { session_is = refl; text_is = record { bytes = refl; end = refl }; state_is = refl })
 
-  pub failed_turn : arrival ≡ Failed → Answered arrival (session s (take kept input) number false) (drop kept input) text₀ (session s (take kept input) number false) text₀ 0 ReadFailed
+  pub failed_turn : {error : Error} → arrival ≡ Failed error → Answered arrival (session s (take kept input) number false) (drop kept input) text₀ (session s (take kept input) number false) text₀ 0 (ReadFailed error)
   unfolding put_list
   failed_turn e = rw e (record { session_is = refl; text_is = record { bytes = refl; end = refl }; state_is = refl })
 
@@ -76,16 +77,16 @@ carried e u = rw e u
 goes : {before : Session} (behind : List ℕ) → Underway before → before.over ≡ false → (arrival : Arrival) → Underway (next arrival before behind)
 goes behind u e (Bytes n) = record { input = _; text = _; reached = arrived u.reached e (take n behind) }
 goes behind u e End = u
-goes behind u e Later = u
-goes behind u e Failed = u
+goes behind u e (Later _) = u
+goes behind u e (Failed _) = u
 
 -- no read makes the input too long
 too_long : State → Bool
 too_long Open = false
 too_long Bad = false
 too_long Ended = false
-too_long ReadFailed = false
-too_long WriteFailed = false
+too_long (ReadFailed e) = false
+too_long (WriteFailed e) = false
 too_long TooLong = true
 
 not_too_long : (arrival : Arrival) (over : Bool) → too_long (stands arrival over) ≡ false
@@ -93,16 +94,16 @@ unfolding too_long
 not_too_long (Bytes n) true = refl
 not_too_long (Bytes n) false = refl
 not_too_long End over = refl
-not_too_long Later over = refl
-not_too_long Failed over = refl
+not_too_long (Later e) over = refl
+not_too_long (Failed e) over = refl
 
-reasons : (arrival : Arrival) (over : Bool) (state : State) (number : ℕ) → state ≡ stands arrival over → is_open state ≡ false → Justified state number (is_bad state)
+pub reasons : (arrival : Arrival) (over : Bool) (state : State) (number : ℕ) → state ≡ stands arrival over → is_open state ≡ false → Justified state number (is_bad state)
 unfolding too_long
 reasons arrival over Open number e o = absurd (false≢true (sym o))
 reasons arrival over Bad number e o = refl
 reasons arrival over Ended number e o = refl
-reasons arrival over ReadFailed number e o = refl
-reasons arrival over WriteFailed number e o = tt
+reasons arrival over (ReadFailed _) number e o = refl
+reasons arrival over (WriteFailed _) number e o = tt
 reasons arrival over TooLong number e o = absurd (false≢true (sym (ap too_long e ∙ not_too_long arrival over)))
 
 module _ {s left : Store} {rest rest' behind text₀ text : List ℕ} {number number' end : ℕ} {state : State} {arrival : Arrival} where
@@ -122,5 +123,5 @@ module _ {s left : Store} {rest rest' behind text₀ text : List ℕ} {number nu
   concludes u a o = record { rest = rest'; over = is_bad state; underway = goes_on u a; reason = reasons arrival (is_bad state) state number' a.state_is o }
 
   pub breaks_off : Underway (session s rest number false)
-      → Answered arrival (session s rest number false) behind text₀ (session left rest' number' (is_bad state)) text end state → Concluded left number' WriteFailed
-  breaks_off u a = record { rest = rest'; over = is_bad state; underway = goes_on u a; reason = tt }
+      → Answered arrival (session s rest number false) behind text₀ (session left rest' number' (is_bad state)) text end state → (error : Error) → Concluded left number' (WriteFailed error)
+  breaks_off u a error = record { rest = rest'; over = is_bad state; underway = goes_on u a; reason = tt }

@@ -1,5 +1,8 @@
 -- What the program does with what a read came to, and why it ends (RULES: program).
-use Rattle.std.specs.Prelude.{Bool, true, false, cond, List, [], ◌≡◌, ℕ, ◌+◌, ◌*◌, ◌^◌, ◌≤◌, ◌<◌, take}
+use Rattle.std.specs.Prelude.{Bool, true, false, cond, List, [], ◌≡◌, ◌⊎◌, ℕ, ◌+◌, ◌*◌, ◌^◌, ◌≤◌, ◌<◌, take}
+use Rattle.std.specs.IoError.{error_kind}
+use Rattle.std.specs.declared.io.Error.{Error}
+use Rattle.std.specs.declared.io.ErrorKind.TheVariants.{Interrupted, WouldBlock}
 use Rattle.lines.specs.Stored.{Stored}
 use Rattle.rules.specs.Store.{Store}
 use Rattle.steps.specs.Records.{record_bytes}
@@ -14,8 +17,12 @@ use Rattle.pagemon.specs.declared.conversation.State.TheVariants.{Open, Bad, End
 abbrev pub Fits : ℕ → ℕ → arrivals.Arrival → Type 0
 Fits room kept (Bytes n) = (0 < n) × (kept + n ≤ room)
 Fits room kept End = Unit {0}
-Fits room kept Later = Unit {0}
-Fits room kept Failed = Unit {0}
+Fits room kept (Later e) = Unit {0}
+Fits room kept (Failed e) = Unit {0}
+
+-- program 8: an error that passes by itself: the read or write was interrupted, or would have waited
+abbrev pub IsPassing : Error → Type 0
+IsPassing e = (error_kind e ≡ Interrupted) ⊎ (error_kind e ≡ WouldBlock)
 
 -- program 1: the image that the program's calls are lent
 abbrev pub image : List ℕ
@@ -25,30 +32,30 @@ image = no_digest
 abbrev pub next : arrivals.Arrival → Session → List ℕ → Session
 next (Bytes n) before behind = heard image before (take n behind)
 next End before behind = before
-next Later before behind = before
-next Failed before behind = before
+next (Later e) before behind = before
+next (Failed e) before behind = before
 
 -- program 4, program 5, program 6, program 9: what is printed after a read
 abbrev pub due : arrivals.Arrival → Session → List ℕ → List ℕ
 due (Bytes n) before behind = said image before (take n behind)
 due End before behind = closing before
-due Later before behind = []
-due Failed before behind = []
+due (Later e) before behind = []
+due (Failed e) before behind = []
 
 -- program 5, program 6, program 8: where the program stands after a read, by whether bad is said
 abbrev pub stands : arrivals.Arrival → Bool → states.State
 stands (Bytes n) over = cond over Bad Open
 stands End over = Ended
-stands Later over = ReadFailed
-stands Failed over = ReadFailed
+stands (Later e) over = ReadFailed e
+stands (Failed e) over = ReadFailed e
 
 -- program 9: the program goes on
 abbrev pub is_open : states.State → Bool
 is_open Open = true
 is_open Bad = false
 is_open Ended = false
-is_open ReadFailed = false
-is_open WriteFailed = false
+is_open (ReadFailed e) = false
+is_open (WriteFailed e) = false
 is_open TooLong = false
 
 -- program 5: the program has said bad
@@ -56,8 +63,8 @@ abbrev pub is_bad : states.State → Bool
 is_bad Open = false
 is_bad Bad = true
 is_bad Ended = false
-is_bad ReadFailed = false
-is_bad WriteFailed = false
+is_bad (ReadFailed e) = false
+is_bad (WriteFailed e) = false
 is_bad TooLong = false
 
 -- program 8, program 9: what the program owes after a read: the session, the text, and where it stands
@@ -81,8 +88,8 @@ abbrev pub Justified : states.State → ℕ → Bool → Type 0
 Justified Open number over = ⊥
 Justified Bad number over = over ≡ true
 Justified Ended number over = over ≡ false
-Justified ReadFailed number over = over ≡ false
-Justified WriteFailed number over = Unit {0}
+Justified (ReadFailed e) number over = over ≡ false
+Justified (WriteFailed e) number over = Unit {0}
 Justified TooLong number over = (over ≡ false) × (most ≤ number)
 
 -- program 1, program 9: there are an input and a text, of which this is the session

@@ -1,1 +1,2 @@
 pub mod Conversation
+pub mod Printed

@@ -1,80 +1,81 @@
-// Standard input: what has arrived, as soon as it has (program 8, program 9).
-ghost use Rattle.std.specs.Prelude.{◌≡◌, ◌≤◌, length, take};
-ghost use Rattle.pagemon.specs.Conversation.{Fits};
+// What has arrived on the input, as soon as it has (program 8, program 9).
+ghost use Rattle.std.specs.Prelude.{◌≡◌, ◌+◌, ◌<◌, ◌≤◌, ◌↔◌, IsTrue, IfErr, IfOk, drop, length, take};
+ghost use Rattle.std.specs.Io.KnownBytes.{Consumes, IsAtEnd};
+ghost use Rattle.pagemon.specs.Conversation.{Fits, IsPassing};
+ghost use Rattle.pagemon.specs.Printed.{brought, is_later};
 
-use libc::STDIN_FILENO;
+use std::io::{self, ErrorKind, Read};
+use std::thread;
 
 // What a read came to.
-#[derive(Drop)]
+#[derive(Clone, Copy)]
 pub enum Arrival {
     // So many bytes.
     Bytes(usize),
     // The end of the input.
     End,
     // Nothing yet: the read was interrupted, or would have waited.
-    Later,
-    Failed,
+    Later(io::Error),
+    Failed(io::Error),
 }
 
 // Whether an error passes by itself.
-pub fn is_passing(error: i32) -> bool {
-    if error == libc::EINTR {
-        return true;
+pub fn is_passing(error: &io::Error) -> bool
+    ensures { IsTrue result ↔ IsPassing error.now }
+{
+    let kind = error.kind();
+    kind == ErrorKind::Interrupted || kind == ErrorKind::WouldBlock
+}
+
+// What a read came to that gave so many bytes, or an error.
+fn arrival_of(got: io::Result<usize>) -> Arrival
+    ensures end { got ≡ Ok 0 → result ≡ Arrival.End }
+    ensures bytes { IfOk got (λ n. 0 < n → result ≡ Arrival.Bytes n) }
+    ensures later { IfErr got (λ e. IsPassing e → result ≡ Arrival.Later e) }
+    ensures failed { IfErr got (λ e. ¬ IsPassing e → result ≡ Arrival.Failed e) }
+{
+    match got {
+        Ok(0) => Arrival::End,
+        Ok(n) => Arrival::Bytes(n),
+        Err(e) if is_passing(&e) => Arrival::Later(e),
+        Err(e) => Arrival::Failed(e),
     }
-    error == libc::EAGAIN
 }
 
 // Reads once, behind the bytes that are kept.
-fn read_behind(input: &mut [u8], kept: usize) -> isize
+fn read_behind<R: Read>(from: &mut R, input: &mut [u8], kept: usize) -> Arrival
     requires { kept ≤ length input.old }
-    ensures { take kept input.new ≡ take kept input.old }
+    ensures input_unchanged { take kept input.new ≡ take kept input.old }
+    ensures fits { Fits (length input.old) kept result }
+    ensures taken { Consumes (R.remaining from.old) (R.remaining from.new) (brought result (drop kept input.new)) }
+    ensures end { result ≡ Arrival.End → kept < length input.old → IsAtEnd (R.remaining from.new) }
 {
-    libc::read(STDIN_FILENO, &mut input[kept..])
+    arrival_of(from.read(&mut input[kept..]))
 }
 
-// What a read came to that was to fill the input behind the bytes that are kept.
-fn arrival_of(got: isize, input: &[u8], kept: usize) -> Arrival
-    requires { kept ≤ length input.now }
-    ensures { Fits (length input.now) kept result }
+fn is_later(arrival: Arrival) -> bool
+    ensures { result ≡ is_later arrival }
 {
-    let n = io::count(got, &input[kept..]);
-    if n > 0 {
-        return Arrival::Bytes(n);
-    }
-    if got == 0 {
-        return Arrival::End;
-    }
-    if is_passing(os::errno()) {
-        return Arrival::Later;
-    }
-    Arrival::Failed
-}
-
-fn is_later(arrival: Arrival) -> bool {
-    match arrival {
-        Arrival::Later => true,
-        _ => false,
-    }
+    matches!(arrival, Arrival::Later(_))
 }
 
 // Tries that no run uses up: a proved loop has to end.
 pub const TRIES: u64 = 0xFFFF_FFFF_FFFF_FFFF;
 
 // Reads behind the bytes that are kept, again where an error passes by itself.
-pub fn receive(input: &mut [u8], kept: usize) -> Arrival
+pub fn receive<R: Read>(from: &mut R, input: &mut [u8], kept: usize) -> Arrival
     requires { kept ≤ length input.old }
     ensures input_unchanged { take kept input.new ≡ take kept input.old }
     ensures fits { Fits (length input.old) kept result }
+    ensures taken { Consumes (R.remaining from.old) (R.remaining from.new) (brought result (drop kept input.new)) }
+    ensures end { result ≡ Arrival.End → kept < length input.old → IsAtEnd (R.remaining from.new) }
 {
-    let mut tries = TRIES;
-    while tries > 0 {
-        let got = read_behind(input, kept);
-        let arrival = arrival_of(got, input, kept);
+    for _ in 0..TRIES {
+        let arrival = read_behind(from, input, kept);
         if !is_later(arrival) {
             return arrival;
         }
-        libc::sched_yield();
-        tries -= 1;
+        thread::yield_now();
     }
-    Arrival::Failed
+    Arrival::Failed(ErrorKind::TimedOut.into())
 }

@@ -1,4 +1,4 @@
-// The session with standard input and output: what arrives is obeyed, and what is due is printed (program 8, program 9).
+// The session with an input and an output: what arrives is obeyed, and what is due is printed (program 8, program 9).
 ghost use Rattle.std.specs.Prelude.{cond, false, true, ◌≡◌, ◌+◌, ◌*◌, ◌<◌, ◌≤◌, drop, length, take};
 ghost use Rattle.lines.specs.Lines.{longest_line};
 ghost use Rattle.lines.specs.Stored.{Stored};
@@ -8,21 +8,23 @@ ghost use Rattle.transcript.specs.Needs.{Advance};
 ghost use Rattle.transcript.specs.Sessions.{session, told, turned, zeros};
 ghost use Rattle.transcript.specs.Transcript.{batch};
 ghost use Rattle.pagemon.specs.Conversation.{Advanced, Answered, Concluded, Fits, image, is_bad, is_open, most};
+ghost use Rattle.pagemon.specs.Printed.{Printed};
 
 use crate::arrival::{Arrival, receive};
 use crate::output::write_text;
+use std::io::{self, Read, Write};
 use transcript::{close, hear};
 
 // Where the program stands.
-#[derive(Drop)]
+#[derive(Clone, Copy)]
 pub enum State {
     Open,
     // A bad record was found.
     Bad,
     // The input has ended.
     Ended,
-    ReadFailed,
-    WriteFailed,
+    ReadFailed(io::Error),
+    WriteFailed(io::Error),
     // As many records were obeyed as the program obeys at most.
     TooLong,
 }
@@ -34,8 +36,8 @@ fn is_open(state: State) -> bool
         State::Open => true,
         State::Bad => false,
         State::Ended => false,
-        State::ReadFailed => false,
-        State::WriteFailed => false,
+        State::ReadFailed(_) => false,
+        State::WriteFailed(_) => false,
         State::TooLong => false,
     }
 }
@@ -87,14 +89,14 @@ fn obey_arrived(
 }
 
 // What the program does where reading has failed: nothing.
-fn give_up(kept: usize, obeyed: u64) -> Turn
-    ensures { (result.kept ≡ kept) × (result.obeyed ≡ obeyed) × (result.end ≡ 0) × (result.state ≡ State.ReadFailed) }
+fn give_up(kept: usize, obeyed: u64, error: io::Error) -> Turn
+    ensures { (result.kept ≡ kept) × (result.obeyed ≡ obeyed) × (result.end ≡ 0) × (result.state ≡ State.ReadFailed error) }
 {
     Turn {
         kept,
         obeyed,
         end: 0,
-        state: State::ReadFailed,
+        state: State::ReadFailed(error),
     }
 }
 
@@ -123,8 +125,8 @@ fn answer(
             end: close(kept, obeyed, text),
             state: State::Ended,
         },
-        Arrival::Later => give_up(kept, obeyed),
-        Arrival::Failed => give_up(kept, obeyed),
+        Arrival::Later(error) => give_up(kept, obeyed, error),
+        Arrival::Failed(error) => give_up(kept, obeyed, error),
     }
 }
 
@@ -139,7 +141,9 @@ pub struct Conclusion {
 }
 
 // Obeys and answers what arrives, until a record is bad, the input ends, reading or writing fails, or the records are as many as they may be.
-pub fn converse(
+pub fn converse<R: Read, W: Write>(
+    from: &mut R,
+    to: &mut W,
     memory: &mut [u8],
     ledger: &mut [u8],
     input: &mut [u8],
@@ -147,16 +151,17 @@ pub fn converse(
 ) -> Conclusion
     requires ledger_value { lent memory.old ledger.old ≡ zeros }
     requires input_len { (length input.old ≡ record_bytes * batch) × (longest_line * (batch + 1) ≤ length text.old) }
-    ensures { Concluded (lent memory.new ledger.new) result.obeyed result.state }
+    ensures concluded { Concluded (lent memory.new ledger.new) result.obeyed result.state }
+    ensures printed { Printed (R.remaining from.old) (R.remaining from.new) (W.contents to.old) (W.contents to.new) (lent memory.new ledger.new) result.obeyed result.state }
 {
     let mut kept = 0;
     let mut obeyed = 0;
     while obeyed < MOST {
-        let arrival = receive(input, kept);
+        let arrival = receive(from, input, kept);
         let done = answer(arrival, memory, ledger, input, kept, obeyed, text);
-        if !write_text(text, done.end) {
+        if let Err(error) = write_text(to, text, done.end) {
             return Conclusion {
-                state: State::WriteFailed,
+                state: State::WriteFailed(error),
                 obeyed: done.obeyed,
             };
         }

@@ -1,82 +1,81 @@
-// Standard output, and one line on standard error where reading or writing fails (program 8).
-ghost use Rattle.std.specs.Prelude.{true, ◌≡◌, ◌+◌, ◌≤◌, ◌<◌, length};
+// The output, and one line on standard error where reading or writing fails (program 8).
+ghost use Rattle.std.specs.Prelude.{true, ◌≡◌, ◌+◌, ◌≤◌, ◌<◌, IfOk, OnErr, OnOk, length, slice_range, take};
+ghost use Rattle.std.specs.Io.KnownBytes.{Appends, WriteAppends};
+ghost use Rattle.pagemon.specs.Printed.{AppendsPart};
 
 use crate::arrival::{TRIES, is_passing};
 use crate::conversation::State;
-use libc::{STDERR_FILENO, STDOUT_FILENO};
+use std::io::{self, Cursor, ErrorKind, Write};
+use std::thread;
 
-// What a write came to: the bytes that it took, and whether it failed.
-#[derive(Drop)]
-struct Written {
-    count: usize,
-    is_failed: bool,
-}
-
-// Writes once, some of a text's bytes from a place up to an end.
-fn write_once(text: &[u8], from: usize, end: usize) -> Written
+// Writes once, some of a text's bytes from a place up to an end, and says how many.
+fn write_once<W: Write>(to: &mut W, text: &[u8], from: usize, end: usize) -> io::Result<usize>
     requires { (from ≤ end) × (end ≤ length text.now) }
-    ensures { from + result.count ≤ end }
+    ensures in_bounds { IfOk result (λ n. from + n ≤ end) }
+    ensures written { WriteAppends (W.contents to.old) (W.contents to.new) result (slice_range text.now from end) }
 {
-    let put = libc::write(STDOUT_FILENO, &text[from..end]);
-    Written {
-        count: io::count(put, &text[from..end]),
-        is_failed: put < 0,
-    }
+    to.write(&text[from..end])
 }
 
 // Whether a write that took nothing is worth another try.
-fn may_try_again(written: Written, tries: u64) -> bool
+fn may_try_again(error: &io::Error, tries: u64) -> bool
     ensures { result ≡ true → 0 < tries }
 {
-    if !written.is_failed {
-        return false;
-    }
-    if tries == 0 {
-        return false;
-    }
-    is_passing(os::errno())
+    tries > 0 && is_passing(error)
 }
 
-// Writes the text up to an end, and says whether all of it was taken. A write that an error stops which passes by itself is tried again.
-pub fn write_text(text: &[u8], end: usize) -> bool
+// Writes the text up to an end, and fails where not all of it was taken. A write that an error stops which passes by itself is tried again.
+pub fn write_text<W: Write>(to: &mut W, text: &[u8], end: usize) -> io::Result<()>
     requires { end ≤ length text.now }
+    ensures written { OnOk result (Appends (W.contents to.old) (W.contents to.new) (take end text.now)) }
+    ensures part { OnErr result (AppendsPart (W.contents to.old) (W.contents to.new) (take end text.now)) }
 {
     let mut from = 0;
     let mut tries = TRIES;
     while from < end {
-        let written = write_once(text, from, end);
-        from += written.count;
-        if written.count == 0 {
-            if !may_try_again(written, tries) {
-                return false;
+        match write_once(to, text, from, end) {
+            Ok(0) => return Err(ErrorKind::WriteZero.into()),
+            Ok(n) => from += n,
+            Err(e) => {
+                if !may_try_again(&e, tries) {
+                    return Err(e);
+                }
+                thread::yield_now();
+                tries -= 1;
             }
-            libc::sched_yield();
-            tries -= 1;
         }
     }
-    true
+    to.flush()
 }
 
-// Says on standard error what has stopped the program, and after how many records.
-fn tell(what: &[u8], obeyed: u64) {
-    io::write_all(STDERR_FILENO, what);
-    io::print_decimal(STDERR_FILENO, obeyed);
+// The most bytes of an error's text that are said.
+const REASON_BYTES: usize = 256;
+
+// The reason in the text of an error, which ends in the system's number of it.
+fn reason_in(text: &[u8]) -> &str {
+    let text = str::from_utf8(text).unwrap_or("");
+    match text.split_once(" (os error ") {
+        Some((reason, _)) => reason,
+        None => text,
+    }
+}
+
+// Says on standard error what has failed, after how many records, and why. Where standard error takes no line, nothing is said.
+fn tell(rt: &impl Eprint, what: &str, obeyed: u64, error: io::Error) {
+    let mut text = Cursor::new([0u8; REASON_BYTES]);
+    let _ = write!(text, "{error}");
+    let end = text.position() as usize;
+    let reason = reason_in(text.get_ref().get(..end).unwrap_or(&[]));
+    let _ = eprintln!(rt; "pagemon: {what} failed, records obeyed: {obeyed}: {reason}");
 }
 
 // A line on standard error, where a failure has stopped the program: with the reason that the system gives, if it has one.
-pub fn report(state: State, obeyed: u64) {
+pub fn report(rt: &impl Eprint, state: State, obeyed: u64) {
     match state {
-        State::ReadFailed => {
-            tell(b"pagemon: read failed, records obeyed: ", obeyed);
-            os::fail(b"");
-        }
-        State::WriteFailed => {
-            tell(b"pagemon: write failed, records obeyed: ", obeyed);
-            os::fail(b"");
-        }
+        State::ReadFailed(error) => tell(rt, "read", obeyed, error),
+        State::WriteFailed(error) => tell(rt, "write", obeyed, error),
         State::TooLong => {
-            tell(b"pagemon: input too long, records obeyed: ", obeyed);
-            io::write_all(STDERR_FILENO, b"\n");
+            let _ = eprintln!(rt; "pagemon: input too long, records obeyed: {obeyed}");
         }
         _ => {}
     }

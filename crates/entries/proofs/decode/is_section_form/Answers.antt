@@ -1,5 +1,5 @@
 -- `entries::decode::is_section_form` meets its contract: it makes the tests of the definition, in their order.
-use borrow.Author.Tests.{ne_eqb, not-true, not-false}
+use borrow.Author.Tests.{ne_eqb}
 use Rattle.entries.specs.Entries.{is_section_form}
 use Rattle.entries.proofs.decode.is_section_form.Goals as goal
 
@@ -14,7 +14,7 @@ returns-then-not-has_section_zeros c =
       ← c.bits.ensures,
       c.if-bits-ne-SECTION_FORM.false,
       ← c.has_section_zeros.ensures,
-      not-true c.has_section_zeros.result c.if-not-has_section_zeros.true-raw,
+      c.if-not-has_section_zeros.true,
     )
 
 pub returns : goal.returns
@@ -24,6 +24,6 @@ returns c =
       ← c.bits.ensures,
       c.if-bits-ne-SECTION_FORM.false,
       ← c.has_section_zeros.ensures,
-      not-false c.has_section_zeros.result c.if-not-has_section_zeros.false-raw,
+      c.if-not-has_section_zeros.false,
       ← c.section_ap.ensures,
     )

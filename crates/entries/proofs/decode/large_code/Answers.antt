@@ -2,7 +2,6 @@
 use mathlib.Core.Path.{sym, ◌∙◌}
 use Prim.Native.Nat.{◌<◌}
 use native.Mathlib.Omega.{arith}
-use borrow.Author.Tests.{not-true, not-false}
 use Rattle.entries.proofs.Decoding.{rights_of_bound, word_code_large}
 use Rattle.entries.proofs.decode.large_code.Goals as goal
 use Rattle.entries.proofs.decode.large_code.Goals.{After-large_rights}
@@ -13,7 +12,7 @@ small c = rw c.large_rights.ensures (rights_of_bound _ _)
 pub returns-then-not-is_large_form : goal.returns-then-not-is_large_form
 returns-then-not-is_large_form c =
     let w = c.args.w in
-    let none = sym c.is_large_form.ensures ∙ not-true c.is_large_form.result c.if-not-is_large_form.true-raw in
+    let none = sym c.is_large_form.ensures ∙ c.if-not-is_large_form.true in
     sym (rw none at (word_code_large w c.requires))
 
 pub overflow_cast-result : goal.overflow_cast-result
@@ -26,5 +25,5 @@ pub returns : goal.returns
 returns c =
     let start = c.before.before.before in
     let w = start.args.w in
-    let form = sym c.is_large_form.ensures ∙ not-false c.is_large_form.result c.if-not-is_large_form.false-raw in
+    let form = sym c.is_large_form.ensures ∙ c.if-not-is_large_form.false in
     omega (arith, c.large_rights.ensures, rw form at (word_code_large w start.requires))

@@ -1,6 +1,5 @@
 use mathlib.Core.Path.{sym}
 use native.Mathlib.Omega.{arith}
-use borrow.Author.Tests.{not-true}
 use Rattle.words.proofs.Bounded.{told, scan_start, scan_next, scan_found, scan_end}
 use Rattle.rules.specs.Store.{some_block}
 use Rattle.rules.proofs.State.{fits_stored, within, inside}
@@ -20,7 +19,7 @@ some_differs-requires c =
 pub returns-then-not-some_differs : goal.returns-then-not-some_differs
 returns-then-not-some_differs c =
     let start = c.before.before.before.before.before.before in
-    sym (all_marked _ _ _ _ c.record_of-b.ensures.is (within _ _ _ _ start.requires.1).0 (told c.some_differs.ensures (not-true _ c.if-not-some_differs.true-raw)))
+    sym (all_marked _ _ _ _ c.record_of-b.ensures.is (within _ _ _ _ start.requires.1).0 (told c.some_differs.ensures c.if-not-some_differs.true))
 
 pub loop-i-init : goal.loop-i-init
 loop-i-init c = scan_start _ _

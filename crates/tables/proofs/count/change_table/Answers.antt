@@ -1,7 +1,6 @@
 -- The table's entries are counted, and then its blocks get their type.
 use mathlib.Core.Path.{sym, ◌∙◌}
 use native.Mathlib.Omega.{arith}
-use borrow.Author.Tests.{not-true, not-false}
 use Rattle.rules.proofs.State.{fits_stored, within}
 use Rattle.tables.proofs.count.change_table.Goals as goal
 
@@ -21,7 +20,7 @@ count_table-requires c =
 pub returns-then-not-count_table : goal.returns-then-not-count_table
 returns-then-not-count_table c =
     let counted = rw (c.first_word-j.ensures, c.table_entries-m.ensures) at c.count_table.ensures in
-    let no = not-true c.count_table.result c.if-not-count_table.true-raw in
+    let no = c.if-not-count_table.true in
     record { tells = sym no ∙ counted.tells; leaves = rw no at counted.leaves }
 
 pub put_types-requires : goal.put_types-requires
@@ -33,5 +32,5 @@ put_types-requires c =
 pub returns : goal.returns
 returns c =
     let counted = rw (c.first_word-j.ensures, c.table_entries-m.ensures) at c.count_table.ensures in
-    let yes = not-false c.count_table.result c.if-not-count_table.false-raw in
+    let yes = c.if-not-count_table.false in
     record { tells = sym yes ∙ counted.tells; leaves = rw (rw yes at counted.leaves, c.record_of-b.ensures.is, c.table_blocks.ensures.0, c.type_after.ensures) at c.put_types.ensures }

@@ -1,7 +1,6 @@
 -- An entry that grants nothing leaves the ledger; one whose counters are in bounds can be changed.
 use mathlib.Core.Path.{refl}
 use native.Mathlib.Omega.{arith}
-use borrow.Author.Tests.{not-true}
 use Rattle.words.proofs.Bounded.{told}
 use Rattle.words.proofs.Words.{Bytes}
 use Rattle.rules.specs.Store.{lent}
@@ -12,7 +11,7 @@ use Rattle.tables.proofs.count.count_entry.Goals as goal
 
 pub returns-then-not-grants_some : goal.returns-then-not-grants_some
 returns-then-not-grants_some c = let bytes : Bytes c.args.ledger.now = λ i. omega (arith, c.slice_known-1.given i) in
-    entry_idle _ _ _ _ c.requires.0 bytes (told c.grants_some.ensures (not-true _ c.if-not-grants_some.true-raw))
+    entry_idle _ _ _ _ c.requires.0 bytes (told c.grants_some.ensures c.if-not-grants_some.true)
 
 pub is_stuck-requires : goal.is_stuck-requires
 is_stuck-requires c = let a = c.args in

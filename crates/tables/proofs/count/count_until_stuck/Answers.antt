@@ -1,6 +1,5 @@
 use mathlib.Core.Path.{◌≡◌, ◌∙◌}
 use native.Mathlib.Omega.{arith}
-use borrow.Author.Tests.{not-true, not-false}
 use Rattle.words.proofs.Words.{Bytes}
 use Rattle.ledger.specs.Meaning.{change_of}
 use Rattle.tables.proofs.Counting.{none_counted, length_reached, next_ready, count_goes_on, count_stops}
@@ -31,11 +30,11 @@ shape_of-ledger-then-not-count_entry c =
 
 pub returns-then-not-count_entry : goal.returns-then-not-count_entry
 returns-then-not-count_entry c = let bytes : Bytes c.args.ledger.now = λ i. omega (arith, c.slice_known-1.given i) in
-    count_stops _ c.requires bytes c.loop-i.i c.loop-i.invariant.1 (omega arith) c.accepted_entry_at-e.ensures c.loop-i.invariant.2 c.count_entry.ensures (not-true _ c.if-not-count_entry.true-raw)
+    count_stops _ c.requires bytes c.loop-i.i c.loop-i.invariant.1 (omega arith) c.accepted_entry_at-e.ensures c.loop-i.invariant.2 c.count_entry.ensures c.if-not-count_entry.true
 
 pub loop-i-preserved : goal.loop-i-preserved
 loop-i-preserved c = let bytes : Bytes c.args.ledger.now = λ i. omega (arith, c.slice_known-1.given i) in
-    let (is, more) = count_goes_on _ c.requires bytes c.loop-i.i c.loop-i.invariant.1 (omega arith) c.accepted_entry_at-e.ensures c.loop-i.invariant.2 c.count_entry.ensures (not-false _ c.if-not-count_entry.false-raw) in
+    let (is, more) = count_goes_on _ c.requires bytes c.loop-i.i c.loop-i.invariant.1 (omega arith) c.accepted_entry_at-e.ensures c.loop-i.invariant.2 c.count_entry.ensures c.if-not-count_entry.false in
     (omega arith, is, more)
 
 pub shape_of-ledger : goal.shape_of-ledger

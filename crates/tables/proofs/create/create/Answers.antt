@@ -30,7 +30,7 @@ change_table-requires c = let p1 = passed _ (omega arith) (sym c.create_refusal-
 pub returns-then-not-change_table : goal.returns-then-not-change_table
 unfolding create_outcome
 returns-then-not-change_table c = let counted = c.change_table.ensures in
-    let no = not-true c.change_table.result c.if-not-change_table.true-raw in
+    let no = c.if-not-change_table.true in
     let before = passed _ (omega arith) (sym c.create_refusal-refusal.ensures.value ∙ c.if-refusal-ne-ACCEPTED.false) in
     let judged = decides (accepted before (here (not-false _ (told counted.tells no)))) in
     let (answer, after) = leaves_refused _ _ _ {a = 13} judged (λ e. omega arith) in
@@ -40,13 +40,13 @@ pub admit_members-requires : goal.admit_members-requires
 admit_members-requires c = let start = c in
     let fit = fits_stored _ (now (passed _ (omega arith) (sym c.create_refusal-refusal.ensures.value ∙ c.if-refusal-ne-ACCEPTED.false))) in
     let ready = c.create_refusal-refusal.ensures.admitted c.if-refusal-ne-ACCEPTED.false in
-    let typed = rw (not-false c.change_table.result c.if-not-change_table.false-raw) at c.change_table.ensures.leaves in
+    let typed = rw c.if-not-change_table.false at c.change_table.ensures.leaves in
     record { in_ledger = (omega (arith, c.blocks-2.ensures, c.change_table.auto), omega (arith, c.create_refusal-refusal.auto), omega (arith, c.blocks-2.ensures)); hashed_value = rw c.blocks-2.ensures (still_hashed _ _ _ _ ready typed) }
 
 pub returns : goal.returns
 unfolding create_outcome
 returns c = let ready = c.create_refusal-refusal.ensures.admitted c.if-refusal-ne-ACCEPTED.false in
-    let yes = not-false c.change_table.result c.if-not-change_table.false-raw in
+    let yes = c.if-not-change_table.false in
     let typed = rw yes at c.change_table.ensures.leaves in
     let before = passed _ (omega arith) (sym c.create_refusal-refusal.ensures.value ∙ c.if-refusal-ne-ACCEPTED.false) in
     let judged = decides (accepted before (past (not-true _ (told c.change_table.ensures.tells yes)) none)) in

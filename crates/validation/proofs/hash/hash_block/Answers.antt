@@ -1,6 +1,5 @@
 -- A block of the set is one of the region. Its mark is looked at first, and it is hashed if that does not settle it.
 use native.Mathlib.Omega.{arith}
-use borrow.Author.Tests.{not-true, not-false}
 use Rattle.words.proofs.Bounded.{told}
 use Rattle.rules.specs.Store.{lent}
 use Rattle.rules.proofs.State.{fits_stored}
@@ -8,17 +7,17 @@ use Rattle.validation.proofs.Hashing.{member_inside, block_out, block_marked, bl
 use Rattle.validation.proofs.hash.hash_block.Goals as goal
 
 pub returns-then-not-contains : goal.returns-then-not-contains
-returns-then-not-contains c = block_out _ _ _ _ (told c.contains.ensures (not-true _ c.if-not-contains.true-raw))
+returns-then-not-contains c = block_out _ _ _ _ (told c.contains.ensures c.if-not-contains.true)
 
 pub is_marked-requires : goal.is_marked-requires
 is_marked-requires c =
     let at = c in
     let fit = fits_stored _ at.requires.0 in
-    let l = member_inside (lent at.args.memory.now at.args.ledger.now) at.args.members.now at.requires.2 at.args.b (told c.contains.ensures (not-false _ c.if-not-contains.false-raw)) in
+    let l = member_inside (lent at.args.memory.now at.args.ledger.now) at.args.members.now at.requires.2 at.args.b (told c.contains.ensures c.if-not-contains.false) in
     omega arith
 
 pub returns-then-is_marked : goal.returns-then-is_marked
-returns-then-is_marked c = block_marked _ _ _ _ (told c.contains.ensures (not-false _ c.if-not-contains.false-raw)) (told c.is_marked.ensures c.if-is_marked.true)
+returns-then-is_marked c = block_marked _ _ _ _ (told c.contains.ensures c.if-not-contains.false) (told c.is_marked.ensures c.if-is_marked.true)
 
 pub base-first-requires : goal.base-first-requires
 base-first-requires c = let fit = fits_stored _ c.requires.0 in omega arith
@@ -27,22 +26,22 @@ pub overflow_add-first : goal.overflow_add-first
 overflow_add-first c =
     let at = c in
     let fit = fits_stored _ at.requires.0 in
-    let l = member_inside (lent at.args.memory.now at.args.ledger.now) at.args.members.now at.requires.2 at.args.b (told c.contains.ensures (not-false _ c.if-not-contains.false-raw)) in
+    let l = member_inside (lent at.args.memory.now at.args.ledger.now) at.args.members.now at.requires.2 at.args.b (told c.contains.ensures c.if-not-contains.false) in
     omega (arith, c.base-first.ensures)
 
 pub is_signed_block-requires : goal.is_signed_block-requires
 is_signed_block-requires c =
     let at = c in
     let fit = fits_stored _ at.requires.0 in
-    let l = member_inside (lent at.args.memory.now at.args.ledger.now) at.args.members.now at.requires.2 at.args.b (told c.contains.ensures (not-false _ c.if-not-contains.false-raw)) in
+    let l = member_inside (lent at.args.memory.now at.args.ledger.now) at.args.members.now at.requires.2 at.args.b (told c.contains.ensures c.if-not-contains.false) in
     rw c.base-first.ensures (omega arith, omega arith)
 
 pub returns-then-is_signed_block : goal.returns-then-is_signed_block
 returns-then-is_signed_block c =
-    block_signed _ _ _ _ (told c.contains.ensures (not-false _ c.if-not-contains.false-raw)) (told c.is_marked.ensures c.if-is_marked.false)
+    block_signed _ _ _ _ (told c.contains.ensures c.if-not-contains.false) (told c.is_marked.ensures c.if-is_marked.false)
     (told (rw c.base-first.ensures at c.is_signed_block.ensures) c.if-is_signed_block.true)
 
 pub returns : goal.returns
 returns c =
-    block_unsigned _ _ _ _ (told c.contains.ensures (not-false _ c.if-not-contains.false-raw)) (told c.is_marked.ensures c.if-is_marked.false)
+    block_unsigned _ _ _ _ (told c.contains.ensures c.if-not-contains.false) (told c.is_marked.ensures c.if-is_marked.false)
     (told (rw c.base-first.ensures at c.is_signed_block.ensures) c.if-is_signed_block.false)
