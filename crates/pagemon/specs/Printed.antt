@@ -55,7 +55,7 @@ pub record Exchanged (left left' held held' : Option (List ℕ)) (now : Session)
   pub taken : Consumes left left' input
   pub written : Appends held held' text
 
--- program 4 to 6, program 8, program 9: what the program has read and written where it ends
+-- program 4, program 5, program 6, program 8, program 9: what the program has read and written where it ends
 pub record Printed (left left' held held' : Option (List ℕ)) (store : Store) (number : ℕ) (state : states.State) : Type 0 where
   pub input : List ℕ
   pub text : List ℕ
