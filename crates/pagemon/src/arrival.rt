@@ -1,5 +1,5 @@
 // What has arrived on the input, as soon as it has (program 8, program 9).
-ghost use Rattle.std.specs.Prelude.{◌≡◌, ◌+◌, ◌<◌, ◌≤◌, ◌↔◌, IsTrue, IfErr, IfOk, drop, length, take};
+ghost use Rattle.std.specs.Prelude.{false, ◌≡◌, ◌+◌, ◌<◌, ◌≤◌, ◌↔◌, IsTrue, IfErr, IfOk, drop, length, take};
 ghost use Rattle.std.specs.Io.KnownBytes.{Consumes, IsAtEnd};
 ghost use Rattle.pagemon.specs.Conversation.{Fits, IsPassing};
 ghost use Rattle.pagemon.specs.Printed.{brought, is_later};
@@ -67,6 +67,7 @@ pub fn receive<R: Read>(reader: &mut R, input: &mut [u8], kept: usize) -> Arriva
     requires { kept ≤ length input.old }
     ensures input_unchanged { take kept input.new ≡ take kept input.old }
     ensures fits { Fits (length input.old) kept result }
+    ensures settled { is_later result ≡ false }
     ensures taken { Consumes (R.remaining reader.old) (R.remaining reader.new) (brought result (drop kept input.new)) }
     ensures end { result ≡ Arrival.End → kept < length input.old → IsAtEnd (R.remaining reader.new) }
 {
