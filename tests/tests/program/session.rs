@@ -165,7 +165,6 @@ extern "C" {
 /// Linux's numbers.
 const F_SETFL: c_int = 4;
 const O_NONBLOCK: c_int = 0o4000;
-pub const SIGPIPE: i32 = 13;
 const SIGCONT: c_int = 18;
 const SIGSTOP: c_int = 19;
 
