@@ -4,7 +4,7 @@ use Prim.Native.Nat.{ℕ, zero, suc, ◌+◌, ◌*◌, ◌/◌, ◌%◌, ◌<◌
 use native.Mathlib.Omega.{arith}
 use Rattle.words.specs.Lists.{tabulate}
 use Rattle.words.specs.Words.{bits}
-use Rattle.words.proofs.Lists.{get_d_tabulate}
+use Rattle.words.proofs.Lists.{get_or-tabulate}
 use Rattle.entries.specs.Needs.{packed_at}
 
 -- byte i of the packed table of f
@@ -28,4 +28,4 @@ module _ (f : ℕ → ℕ) (fits : (i : ℕ) → f i < 16) where
   pub packed_at-tabulate : (n i : ℕ) → i < 2 * n → packed_at (tabulate (pair_of f) n) i ≡ f i
   unfolding packed_at
   packed_at-tabulate n i h =
-      rw (get_d_tabulate (pair_of f) n (i / 2) (omega arith)) (bits_pair_of (i / 2) (i % 2) (omega arith) ∙ ap f (omega arith))
+      rw (get_or-tabulate (pair_of f) n (i / 2) (omega arith)) (bits_pair_of (i / 2) (i % 2) (omega arith) ∙ ap f (omega arith))

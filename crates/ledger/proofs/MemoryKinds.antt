@@ -10,7 +10,7 @@ use borrow.Author.Tests.{lt-ltb, le-ltb}
 use Rattle.words.specs.Bounded.{above, neqb, any}
 use Rattle.words.specs.Words.{bits, half, word}
 use Rattle.words.proofs.Bounded.{below_or_above, any_same, any_pairs, same, differ}
-use Rattle.words.proofs.Lists.{get_d_part}
+use Rattle.words.proofs.Lists.{get_or-part}
 use Rattle.words.proofs.Words.{Bytes}
 use Rattle.rules.specs.Store.{greatest_kind, kind_count, kinds_bytes, kinds_place, kinds_of, kind_at, unlawful_kinds}
 use Rattle.ledger.specs.Pieces.{unlawful_pair}
@@ -62,4 +62,4 @@ pub kind_stored : (led : List ℕ) (k : ℕ) → k < kind_count → half led (ki
 unfolding half kind_at kinds_of
 kind_stored led k l =
     let next : kinds_place + (2 * k + 1) ≡ kinds_place + 2 * k + 1 = omega arith in
-    rw (get_d_part led kinds_place kinds_bytes (2 * k) (omega arith), get_d_part led kinds_place kinds_bytes (2 * k + 1) (omega arith), next) refl
+    rw (get_or-part led kinds_place kinds_bytes (2 * k) (omega arith), get_or-part led kinds_place kinds_bytes (2 * k + 1) (omega arith), next) refl

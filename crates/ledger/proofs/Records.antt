@@ -8,7 +8,7 @@ use lib.ListN.{length, get_or}
 use lib.Seq.{ext_get_or}
 use Rattle.words.specs.Words.{bits, word}
 use Rattle.words.proofs.Bounded.{below_or_above}
-use Rattle.words.proofs.Words.{Bytes, word_bound, bytes_put_word, get_d_put_word_same, put_word_self}
+use Rattle.words.proofs.Words.{Bytes, word_bound, bytes_put_word, get_or-put_word_same, put_word_self}
 use Rattle.rules.specs.Store.{ledger_head_bytes, ledger_record_bytes, record_word, put_record_word, recount, type_word, Counter, writable, executable, linked, counter_word, mark_word}
 
 -- the words of a ledger of bytes, and its bytes when it is recounted
@@ -23,7 +23,7 @@ bytes_recount led (suc n) f h = bytes_put_word _ _ _ (bytes_put_word _ _ _ (byte
 
 -- a byte is a part of its word
 byte_of_word : (xs : List ℕ) (a k : ℕ) → Bytes xs → k < 4 → a + k < length xs → get_or xs (a + k) 0 ≡ bits (word xs a) (8 * k) 8
-byte_of_word xs a k b h l = sym (ap (λ (ys : List ℕ). get_or ys (a + k) 0) (put_word_self xs a b)) ∙ get_d_put_word_same xs a (word xs a) k h l
+byte_of_word xs a k b h l = sym (ap (λ (ys : List ℕ). get_or ys (a + k) 0) (put_word_self xs a b)) ∙ get_or-put_word_same xs a (word xs a) k h l
 
 words_ext : (xs ys : List ℕ) → length xs ≡ length ys → Bytes xs → Bytes ys → ((j : ℕ) → 4 * j < length xs → word xs (4 * j) ≡ word ys (4 * j)) → xs ≡ ys
 words_ext xs ys n bx by h = ext_get_or 0 xs ys n (λ i l. at_byte i (i / 4) (i % 4) l (omega arith) (omega arith)) where

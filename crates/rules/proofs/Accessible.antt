@@ -8,7 +8,7 @@ use Prim.Native.Nat.{ℕ, ◌+◌, ◌-◌, ◌*◌, ◌/◌, ◌%◌, ◌^◌, 
 use native.Mathlib.Decide.{ℕ_discrete}
 use native.Mathlib.Omega.{arith}
 use lib.ListN.{set}
-use Rattle.words.proofs.Lists.{get_d_part}
+use Rattle.words.proofs.Lists.{get_or-part}
 use Rattle.entries.specs.Entries.{Entry, Level, l1, l2, entry_at, rights}
 use Rattle.entries.specs.Rights.{Right, write, execute, allows}
 use Rattle.rules.specs.Refusals.{answer_of}
@@ -141,7 +141,7 @@ module _ {h : Told} {s : Store} (r : Running h s) where
       record {
         block = t.block;
         executes = as_code;
-        taken = rw (t.walked, r.told-base) (sym (get_d_part s.memory (block_bytes * (t.block - base s)) block_bytes (addr % block_bytes) (omega arith)));
+        taken = rw (t.walked, r.told-base) (sym (get_or-part s.memory (block_bytes * (t.block - base s)) block_bytes (addr % block_bytes) (omega arith)));
         signs = integrity t.block as_code;
       }
 

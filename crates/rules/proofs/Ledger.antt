@@ -10,8 +10,8 @@ use lib.ListN.{length}
 use Rattle.words.specs.Lists.{put_list}
 use Rattle.words.specs.Words.{word, put_word}
 use Rattle.words.proofs.Bounded.{last_or_below, below_or_above, among_in, among_out}
-use Rattle.words.proofs.Lists.{part_same, part-put_list, get_d_put_list_other}
-use Rattle.words.proofs.Words.{length-put_word, get_d_put_word_other, word_cong, word-put_word_same, word-put_word_other}
+use Rattle.words.proofs.Lists.{part_same, part-put_list, get_or-put_list_other}
+use Rattle.words.proofs.Words.{length-put_word, get_or-put_word_other, word_cong, word-put_word_same, word-put_word_other}
 use Rattle.rules.specs.Store.{ledger_head_bytes, ledger_record_bytes, kinds_place, kinds_bytes, kinds_of, record_word, put_record_word, type_word, Counter, writable, executable, linked, counter_word, mark_word, mark_value, retype, put_counters, recount, clear_mark, clear_marks, mark_blocks}
 use Rattle.rules.specs.Steps.{typed}
 
@@ -22,7 +22,7 @@ pub kinds_put_word : (led : List ℕ) (a v : ℕ) → (a + 4 ≤ kinds_place) �
 unfolding kinds_of
 kinds_put_word led a v beside =
     part_same (put_word led a v) led kinds_place kinds_bytes (length-put_word led a v)
-    (λ i l. get_d_put_word_other led a v (kinds_place + i) (λ h. ⊎_elim (λ (b : a + 4 ≤ kinds_place). omega arith) (λ (b : ledger_head_bytes ≤ a). omega arith) beside))
+    (λ i l. get_or-put_word_other led a v (kinds_place + i) (λ h. ⊎_elim (λ (b : a + 4 ≤ kinds_place). omega arith) (λ (b : ledger_head_bytes ≤ a). omega arith) beside))
 
 -- One word of a record
 
@@ -84,7 +84,7 @@ record_word_put_head led a v k b h = word-put_word_other led a v (ledger_head_by
 module _ (led kinds : List ℕ) (sixteen : length kinds ≡ kinds_bytes) where
   pub record_word_put_kinds : (k b : ℕ) → record_word (put_list led kinds_place kinds) k b ≡ record_word led k b
   unfolding record_word
-  record_word_put_kinds k b = word_cong (put_list led kinds_place kinds) led (ledger_head_bytes + ledger_record_bytes * b + 4 * k) (λ i lo hi. get_d_put_list_other led kinds_place kinds i (λ h. omega arith))
+  record_word_put_kinds k b = word_cong (put_list led kinds_place kinds) led (ledger_head_bytes + ledger_record_bytes * b + 4 * k) (λ i lo hi. get_or-put_list_other led kinds_place kinds i (λ h. omega arith))
 
   pub kinds_put : ledger_head_bytes ≤ length led → kinds_of (put_list led kinds_place kinds) ≡ kinds
   unfolding kinds_of

@@ -8,8 +8,8 @@ use lib.ListN.{length, get_or, set, length-set}
 use lib.Seq.{get_or-set_other}
 use Rattle.words.specs.Words.{word, put_word}
 use Rattle.words.proofs.Bounded.{last_or_below, below_or_above, window_or_outside}
-use Rattle.words.proofs.Lists.{get_d_part, part_same}
-use Rattle.words.proofs.Words.{length-put_word, get_d_put_word_other, word_cong, word-put_word_same, word-put_word_other}
+use Rattle.words.proofs.Lists.{get_or-part, part_same}
+use Rattle.words.proofs.Words.{length-put_word, get_or-put_word_other, word_cong, word-put_word_same, word-put_word_other}
 use Rattle.entries.specs.Entries.{Entry, Level, entry_at, run_words}
 use Rattle.entries.specs.Written.{word_of}
 use Rattle.entries.proofs.Decoding.{Lone, entry_at_beside, entry_at_cong}
@@ -26,15 +26,15 @@ module _ (mem : List ℕ) (j : ℕ) (w : ℕ → ℕ) where
   length-fill (suc m) = length-put_word (fill mem j m w) (4 * (j + m)) (w m) ∙ length-fill m
 
   -- a byte outside the words that are filled
-  get_d_fill_other : (m i : ℕ) → (4 * j ≤ i → 4 * (j + m) ≤ i) → get_or (fill mem j m w) i 0 ≡ get_or mem i 0
+  get_or-fill_other : (m i : ℕ) → (4 * j ≤ i → 4 * (j + m) ≤ i) → get_or (fill mem j m w) i 0 ≡ get_or mem i 0
   unfolding fill
-  get_d_fill_other zero i o = refl
-  get_d_fill_other (suc m) i o =
-      get_d_put_word_other (fill mem j m w) (4 * (j + m)) (w m) i (λ h. omega (arith, o (omega arith))) ∙ get_d_fill_other m i (λ h. omega (arith, o h))
+  get_or-fill_other zero i o = refl
+  get_or-fill_other (suc m) i o =
+      get_or-put_word_other (fill mem j m w) (4 * (j + m)) (w m) i (λ h. omega (arith, o (omega arith))) ∙ get_or-fill_other m i (λ h. omega (arith, o h))
 
   -- a word outside
   pub word-fill_other : (m i : ℕ) → (j ≤ i → j + m ≤ i) → word (fill mem j m w) (4 * i) ≡ word mem (4 * i)
-  word-fill_other m i o = word_cong (fill mem j m w) mem (4 * i) (λ k lo hi. get_d_fill_other m k (λ h. away k lo hi h)) where
+  word-fill_other m i o = word_cong (fill mem j m w) mem (4 * i) (λ k lo hi. get_or-fill_other m k (λ h. away k lo hi h)) where
     away : (k : ℕ) → 4 * i ≤ k → k < 4 * i + 4 → 4 * j ≤ k → 4 * (j + m) ≤ k
     away k lo hi h = ⊎_elim (λ (l : i < j). let z : ⊥ = omega arith in absurd z) (λ (l : j ≤ i). omega (arith, o l)) (below_or_above i j)
 
@@ -84,7 +84,7 @@ contents_same mem mem' b e h = part_same mem mem' (block_bytes * b) block_bytes 
 contents_byte : (mem mem' : List ℕ) (b i : ℕ) → contents mem b ≡ contents mem' b → i / block_bytes ≡ b → get_or mem i 0 ≡ get_or mem' i 0
 contents_byte mem mem' b i e in_block =
     let at : block_bytes * b + i % block_bytes ≡ i = omega arith in
-    let byte : (m : List ℕ) → get_or (contents m b) (i % block_bytes) 0 ≡ get_or m (block_bytes * b + i % block_bytes) 0 = λ m. get_d_part m (block_bytes * b) block_bytes (i % block_bytes) (omega arith) in
+    let byte : (m : List ℕ) → get_or (contents m b) (i % block_bytes) 0 ≡ get_or m (block_bytes * b + i % block_bytes) 0 = λ m. get_or-part m (block_bytes * b) block_bytes (i % block_bytes) (omega arith) in
     rw at at (sym (byte mem) ∙ ap (λ (xs : List ℕ). get_or xs (i % block_bytes) 0) e ∙ byte mem')
 
 pub contents_entry : (v : Level) (mem mem' : List ℕ) (b j : ℕ) → contents mem b ≡ contents mem' b → j / block_words ≡ b → entry_at v mem j ≡ entry_at v mem' j
@@ -93,7 +93,7 @@ contents_entry v mem mem' b j e in_block =
 
 pub contents-fill : (mem : List ℕ) (j : ℕ) (w : ℕ → ℕ) (m b : ℕ) → (4 * j < block_bytes * b + block_bytes → 4 * (j + m) ≤ block_bytes * b) → contents (fill mem j m w) b ≡ contents mem b
 contents-fill mem j w m b o =
-    contents_same (fill mem j m w) mem b (length-fill mem j w m) (λ i lo hi. get_d_fill_other mem j w m i (λ h. omega (arith, o (omega arith))))
+    contents_same (fill mem j m w) mem b (length-fill mem j w m) (λ i lo hi. get_or-fill_other mem j w m i (λ h. omega (arith, o (omega arith))))
 
 pub contents-set : (mem : List ℕ) (j v b : ℕ) → (j < block_bytes * b + block_bytes → j < block_bytes * b) → contents (set mem j v) b ≡ contents mem b
 contents-set mem j v b o =

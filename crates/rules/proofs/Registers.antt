@@ -10,7 +10,7 @@ use lib.Seq.{get_or-set_other, get_or-set_same}
 use borrow.Author.Tests.{ne_eqb}
 use Rattle.words.specs.Words.{word, put_word}
 use Rattle.words.proofs.Bounded.{same}
-use Rattle.words.proofs.Words.{length-put_word, get_d_put_word_other, word_cong, word-put_word_same, word-put_word_other}
+use Rattle.words.proofs.Words.{length-put_word, get_or-put_word_other, word_cong, word-put_word_same, word-put_word_other}
 use Rattle.entries.specs.Entries.{Level, l1, l2}
 use Rattle.rules.specs.Refusals.{Refusal, ◌if◌, answer_of}
 use Rattle.rules.specs.Store.{Store, misfit_stored}
@@ -68,8 +68,8 @@ fault_told registers abort status addr fits small narrow =
       address_is = before (address_place abort) (omega arith) ∙ word-put_word_same one (address_place abort) addr (omega (arith, length-put_word registers (status_place abort) status)) narrow;
       pending_is = get_or-set_same both pending_place 1 0 (omega arith);
       others = λ i away other.
-          get_or-set_other both pending_place i 1 0 other ∙ get_d_put_word_other one (address_place abort) addr i (λ l. away (omega arith))
-          ∙ get_d_put_word_other registers (status_place abort) status i (λ l. omega (arith, away l));
+          get_or-set_other both pending_place i 1 0 other ∙ get_or-put_word_other one (address_place abort) addr i (λ l. away (omega arith))
+          ∙ get_or-put_word_other registers (status_place abort) status i (λ l. omega (arith, away l));
     }
 
 -- An access

@@ -73,9 +73,9 @@ writes_to5 count = put_record_word one_l2 (counter_word writable) 5 count
 
 word-zeros : (n a : ℕ) → word (zeros n) a ≡ 0
 unfolding word zeros
-word-zeros n a = rw (get_d_zeros n a, get_d_zeros n (a + 1), get_d_zeros n (a + 2), get_d_zeros n (a + 3)) refl where
-  get_d_zeros : (n i : ℕ) → get_or {A = ℕ} (replicate n 0) i 0 ≡ 0
-  get_d_zeros n i = ⊎_elim (λ (h : i < n). get_or-replicate n i 0 0 h) (λ (h : n ≤ i). get_or-eq_default (replicate n 0) 0 {n = i} (rw (length-replicate {A = ℕ} n 0) h)) (below_or_above i n)
+word-zeros n a = rw (get_or-zeros n a, get_or-zeros n (a + 1), get_or-zeros n (a + 2), get_or-zeros n (a + 3)) refl where
+  get_or-zeros : (n i : ℕ) → get_or {A = ℕ} (replicate n 0) i 0 ≡ 0
+  get_or-zeros n i = ⊎_elim (λ (h : i < n). get_or-replicate n i 0 0 h) (λ (h : n ≤ i). get_or-eq_default (replicate n 0) 0 {n = i} (rw (length-replicate {A = ℕ} n 0) h)) (below_or_above i n)
 
 -- every entry of zeros is a fault
 pub zero_entry : (v : Level) (n i : ℕ) → entry_at v (zeros n) i ≡ fault

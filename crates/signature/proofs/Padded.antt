@@ -4,16 +4,16 @@ use lib.ListN.{length-replicate, get_or-replicate, get_or-append}
 use lib.Pow.{field, mod-mod-pow}
 use lib.Seq.{get_or-append_seam, drop-append-le, drop-append-add, take-append-le}
 use Rattle.words.specs.Lists.{part}
-use Rattle.words.proofs.Lists.{length-tabulate, get_d_tabulate}
+use Rattle.words.proofs.Lists.{length-tabulate, get_or-tabulate}
 use Rattle.signature.specs.Sha256.{big_endian, big_endian_byte, zeros, padded}
 
 pub length-big_endian : (n v : ℕ) → length (big_endian n v) ≡ n
 unfolding big_endian
 length-big_endian n v = length-tabulate (big_endian_byte n v) n
 
-pub get_d_big_endian : (n v i : ℕ) → i < n → get_or (big_endian n v) i 0 ≡ big_endian_byte n v i
+pub get_or-big_endian : (n v i : ℕ) → i < n → get_or (big_endian n v) i 0 ≡ big_endian_byte n v i
 unfolding big_endian
-get_d_big_endian n v i l = get_d_tabulate (big_endian_byte n v) n i l
+get_or-big_endian n v i l = get_or-tabulate (big_endian_byte n v) n i l
 
 pub length-padded : (m : List ℕ) → length (padded m) ≡ length m + 9 + zeros (length m)
 unfolding padded
@@ -63,7 +63,7 @@ pub length_byte : (n j : ℕ) → j < 8 → big_endian_byte 8 (8 * (n % 2 ^ 61))
 unfolding big_endian_byte
 length_byte n j h =
     let e : 8 * (n % 2 ^ 61) ≡ 8 * n % 2 ^ 64 = omega arith in
-    ap (λ (v : ℕ). v / 2 ^ (8 * (7 - j)) % 2 ^ 8) e ∙ low_byte (8 * n) (8 * (7 - j)) (omega arith) ∙ sym (get_d_big_endian 8 (8 * n) j h)
+    ap (λ (v : ℕ). v / 2 ^ (8 * (7 - j)) % 2 ^ 8) e ∙ low_byte (8 * n) (8 * (7 - j)) (omega arith) ∙ sym (get_or-big_endian 8 (8 * n) j h)
 
 -- a part that lies in the message
 part-padded : (m : List ℕ) (a n : ℕ) → a + n ≤ length m → part (padded m) a n ≡ part m a n

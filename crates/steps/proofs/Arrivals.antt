@@ -149,10 +149,10 @@ step_behind xs = rw zero-add at (behind xs 0 (length xs) (omega arith))
 -- Bytes that begin no record
 
 -- what stands for an element that is there does not matter
-pub get_d_any : (xs : List ℕ) (i a b : ℕ) → i < length xs → get_or xs i a ≡ get_or xs i b
-get_d_any [] i a b h = let z : ⊥ = omega arith in absurd z
-get_d_any (x ∷ xs) zero a b h = refl
-get_d_any (x ∷ xs) (suc i) a b h = get_d_any xs i a b (omega arith)
+pub get_or_any : (xs : List ℕ) (i a b : ℕ) → i < length xs → get_or xs i a ≡ get_or xs i b
+get_or_any [] i a b h = let z : ⊥ = omega arith in absurd z
+get_or_any (x ∷ xs) zero a b h = refl
+get_or_any (x ∷ xs) (suc i) a b h = get_or_any xs i a b (omega arith)
 
 -- whether a call byte is listed does not depend on the words
 listed : (call a b c d : ℕ) → is_step (step_of call a b c d) ≡ is_step (step_of call 0 0 0 0)
@@ -172,9 +172,9 @@ unfolding step_at spoilt is_step
 whole_step_lem xs p h =
     rw (
       le-ltb (length xs) (p + record_bytes) h,
-      get_d_any xs p 0x50 0 (omega arith),
-      get_d_any xs (p + 1) 0x54 0 (omega arith),
-      get_d_any xs (p + call_place) 1 0 (omega arith),
+      get_or_any xs p 0x50 0 (omega arith),
+      get_or_any xs (p + 1) 0x54 0 (omega arith),
+      get_or_any xs (p + call_place) 1 0 (omega arith),
     )
     (go (neqb (get_or xs p 0) 0x50) (neqb (get_or xs (p + 1) 0) 0x54) (whole_step xs p) (listed (get_or xs (p + call_place) 0) _ _ _ _)) where
       go : (a b : Bool) (o : Option Step) {l : Bool} → is_step o ≡ l → is_step (cond (a || b) none o) ≡ not (a || b || not l)

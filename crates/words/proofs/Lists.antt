@@ -17,12 +17,12 @@ module _ (f : ℕ → ℕ) where
   length-tabulate zero = refl
   length-tabulate (suc n) = length-append (tabulate f n) (f n ∷ []) ∙ (let e = length-tabulate n in omega arith)
 
-  pub get_d_tabulate : (n i : ℕ) → i < n → get_or (tabulate f n) i 0 ≡ f i
+  pub get_or-tabulate : (n i : ℕ) → i < n → get_or (tabulate f n) i 0 ≡ f i
   unfolding tabulate
-  get_d_tabulate zero i h = let z : ⊥ = omega arith in absurd z
-  get_d_tabulate (suc n) i h =
+  get_or-tabulate zero i h = let z : ⊥ = omega arith in absurd z
+  get_or-tabulate (suc n) i h =
       ⊎_elim (λ (q : i ≡ n). rw q (get_or_at (tabulate f n) (f n) [] 0 n (length-tabulate n)))
-      (λ (l : i < n). get_or-append (tabulate f n) (f n ∷ []) 0 i (let e = length-tabulate n in omega arith) ∙ get_d_tabulate n i l)
+      (λ (l : i < n). get_or-append (tabulate f n) (f n ∷ []) 0 i (let e = length-tabulate n in omega arith) ∙ get_or-tabulate n i l)
       (last_or_below h)
 
 module _ (xs : List ℕ) (a m : ℕ) where
@@ -30,21 +30,21 @@ module _ (xs : List ℕ) (a m : ℕ) where
   unfolding part
   length_part h = simp (length-take, length-drop) (omega arith)
 
-  pub get_d_part : (i : ℕ) → i < m → get_or (part xs a m) i 0 ≡ get_or xs (a + i) 0
+  pub get_or-part : (i : ℕ) → i < m → get_or (part xs a m) i 0 ≡ get_or xs (a + i) 0
   unfolding part
-  get_d_part i h = get_or-take m (drop a xs) i 0 h ∙ get_or-drop a xs i 0
+  get_or-part i h = get_or-take m (drop a xs) i 0 h ∙ get_or-drop a xs i 0
 
   -- a part, by its elements
   pub part-tabulate : a + m ≤ length xs → tabulate (λ i. get_or xs (a + i) 0) m ≡ part xs a m
   part-tabulate h =
       ext_get_or 0 (tabulate (λ i. get_or xs (a + i) 0) m) (part xs a m) (length-tabulate _ m ∙ sym (length_part h))
-      (λ i l. let l' : i < m = (let e = length-tabulate (λ i. get_or xs (a + i) 0) m in omega arith) in get_d_tabulate _ m i l' ∙ sym (get_d_part i l'))
+      (λ i l. let l' : i < m = (let e = length-tabulate (λ i. get_or xs (a + i) 0) m in omega arith) in get_or-tabulate _ m i l' ∙ sym (get_or-part i l'))
 
 pub part_same : (xs ys : List ℕ) (a m : ℕ) → length xs ≡ length ys → ((i : ℕ) → i < m → get_or xs (a + i) 0 ≡ get_or ys (a + i) 0) → part xs a m ≡ part ys a m
 unfolding part
 part_same xs ys a m e h =
     ext_get_or 0 (part xs a m) (part ys a m) (simp (length-take, length-drop) (omega arith))
-    (λ i l. let k : i < m = omega (arith, simp (length-take, length-drop) at l) in get_d_part xs a m i k ∙ h i k ∙ sym (get_d_part ys a m i k))
+    (λ i l. let k : i < m = omega (arith, simp (length-take, length-drop) at l) in get_or-part xs a m i k ∙ h i k ∙ sym (get_or-part ys a m i k))
 
 -- Storing a list over another
 
@@ -78,26 +78,26 @@ pub put_list_between : (xs : List ℕ) (a : ℕ) (ys : List ℕ) → a + length 
 put_list_between xs a ys h = stores xs a ys ∙ sets-eq ys xs a h
 
 -- an element that is not stored over
-pub get_d_put_list_other : (xs : List ℕ) (a : ℕ) (ys : List ℕ) (i : ℕ) → (a ≤ i → a + length ys ≤ i) → get_or (put_list xs a ys) i 0 ≡ get_or xs i 0
+pub get_or-put_list_other : (xs : List ℕ) (a : ℕ) (ys : List ℕ) (i : ℕ) → (a ≤ i → a + length ys ≤ i) → get_or (put_list xs a ys) i 0 ≡ get_or xs i 0
 unfolding put_list
-get_d_put_list_other xs a [] i o = refl
-get_d_put_list_other xs a (y ∷ ys) i o = get_d_put_list_other (set xs a y) (suc a) ys i (λ h. omega (arith, o (omega arith))) ∙ get_or-set_other xs a i y 0 (λ q. omega (arith, o (omega arith)))
+get_or-put_list_other xs a [] i o = refl
+get_or-put_list_other xs a (y ∷ ys) i o = get_or-put_list_other (set xs a y) (suc a) ys i (λ h. omega (arith, o (omega arith))) ∙ get_or-set_other xs a i y 0 (λ q. omega (arith, o (omega arith)))
 
 -- an element that is
-pub get_d_put_list_in : (xs : List ℕ) (a : ℕ) (ys : List ℕ) (i : ℕ) → a + length ys ≤ length xs → i < length ys → get_or (put_list xs a ys) (a + i) 0 ≡ get_or ys i 0
+pub get_or-put_list_in : (xs : List ℕ) (a : ℕ) (ys : List ℕ) (i : ℕ) → a + length ys ≤ length xs → i < length ys → get_or (put_list xs a ys) (a + i) 0 ≡ get_or ys i 0
 unfolding put_list
-get_d_put_list_in xs a [] i h l = let z : ⊥ = omega arith in absurd z
-get_d_put_list_in xs a (y ∷ ys) zero h l =
-    rw (add-zero a) (get_d_put_list_other (set xs a y) (suc a) ys a (λ g. omega arith) ∙ get_or-set_same xs a y 0 (omega arith))
-get_d_put_list_in xs a (y ∷ ys) (suc i) h l =
-    rw (add-suc a i, ← suc-add a i) (get_d_put_list_in (set xs a y) (suc a) ys i (rw (length-set xs a y) (omega arith)) (omega arith))
+get_or-put_list_in xs a [] i h l = let z : ⊥ = omega arith in absurd z
+get_or-put_list_in xs a (y ∷ ys) zero h l =
+    rw (add-zero a) (get_or-put_list_other (set xs a y) (suc a) ys a (λ g. omega arith) ∙ get_or-set_same xs a y 0 (omega arith))
+get_or-put_list_in xs a (y ∷ ys) (suc i) h l =
+    rw (add-suc a i, ← suc-add a i) (get_or-put_list_in (set xs a y) (suc a) ys i (rw (length-set xs a y) (omega arith)) (omega arith))
 
 -- the part that was stored
 pub part-put_list : (xs : List ℕ) (a : ℕ) (ys : List ℕ) → a + length ys ≤ length xs → part (put_list xs a ys) a (length ys) ≡ ys
 part-put_list xs a ys h =
     let long : length (part (put_list xs a ys) a (length ys)) ≡ length ys = length_part (put_list xs a ys) a (length ys) (rw (length-put_list xs a ys) h) in
     ext_get_or 0 (part (put_list xs a ys) a (length ys)) ys long
-    (λ i l. let l' : i < length ys = rw long at l in get_d_part (put_list xs a ys) a (length ys) i l' ∙ get_d_put_list_in xs a ys i h l')
+    (λ i l. let l' : i < length ys = rw long at l in get_or-part (put_list xs a ys) a (length ys) i l' ∙ get_or-put_list_in xs a ys i h l')
 
 -- A loop that fills an array of n elements
 

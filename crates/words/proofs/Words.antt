@@ -20,32 +20,32 @@ module _ (xs : List ℕ) (a v : ℕ) where
   length-put_word = simp length-set
 
   -- outside the four bytes
-  pub get_d_put_word_other : (i : ℕ) → (a ≤ i → a + 4 ≤ i) → get_or (put_word xs a v) i 0 ≡ get_or xs i 0
+  pub get_or-put_word_other : (i : ℕ) → (a ≤ i → a + 4 ≤ i) → get_or (put_word xs a v) i 0 ≡ get_or xs i 0
   unfolding put_word
-  get_d_put_word_other i o =
+  get_or-put_word_other i o =
       let off : (k : ℕ) → k < 4 → i ≢ a + k = λ k h e. omega (arith, o (omega arith)) in
       let off_first : i ≢ a = λ e. omega (arith, o (omega arith)) in
       simp (get_or-set_other, off 1 (omega arith), off 2 (omega arith), off 3 (omega arith))
 
   -- the k-th of the four bytes
-  pub get_d_put_word_same : (k : ℕ) → k < 4 → a + k < length xs → get_or (put_word xs a v) (a + k) 0 ≡ bits v (8 * k) 8
+  pub get_or-put_word_same : (k : ℕ) → k < 4 → a + k < length xs → get_or (put_word xs a v) (a + k) 0 ≡ bits v (8 * k) 8
   unfolding put_word
-  get_d_put_word_same zero h l =
+  get_or-put_word_same zero h l =
       let off : (k : ℕ) → 0 < k → a ≢ a + k = λ k p e. omega arith in
       let inside : a < length xs = omega arith in
       simp (add-zero, get_or-set_other, get_or-set_same, off 1 (omega arith), off 2 (omega arith), off 3 (omega arith))
-  get_d_put_word_same (suc zero) h l =
+  get_or-put_word_same (suc zero) h l =
       let off : (k : ℕ) → 1 < k → a + 1 ≢ a + k = λ k p e. omega arith in
       let inside : a + 1 < length (set xs a (bits v 0 8)) = simp length-set (omega arith) in
       simp (get_or-set_other, get_or-set_same, off 2 (omega arith), off 3 (omega arith))
-  get_d_put_word_same (suc (suc zero)) h l =
+  get_or-put_word_same (suc (suc zero)) h l =
       let off : a + 2 ≢ a + 3 = λ e. omega arith in
       let inside : a + 2 < length (set (set xs a (bits v 0 8)) (a + 1) (bits v 8 8)) = simp length-set (omega arith) in
       simp (get_or-set_other, get_or-set_same)
-  get_d_put_word_same (suc (suc (suc zero))) h l =
+  get_or-put_word_same (suc (suc (suc zero))) h l =
       let inside : a + 3 < length (set (set (set xs a (bits v 0 8)) (a + 1) (bits v 8 8)) (a + 2) (bits v 16 8)) = simp length-set (omega arith) in
       simp get_or-set_same
-  get_d_put_word_same (suc (suc (suc (suc k)))) h l = let z : ⊥ = omega arith in absurd z
+  get_or-put_word_same (suc (suc (suc (suc k)))) h l = let z : ⊥ = omega arith in absurd z
 
 -- Reading
 
@@ -71,14 +71,14 @@ bytes_of v h =
 
 module _ (xs : List ℕ) (a v : ℕ) where
   pub word-put_word_other : (j : ℕ) → (j < a + 4 → j + 4 ≤ a) → word (put_word xs a v) j ≡ word xs j
-  word-put_word_other j o = word_cong (put_word xs a v) xs j (λ i lo hi. get_d_put_word_other xs a v i (λ h. away i lo hi h)) where
+  word-put_word_other j o = word_cong (put_word xs a v) xs j (λ i lo hi. get_or-put_word_other xs a v i (λ h. away i lo hi h)) where
     away : (i : ℕ) → j ≤ i → i < j + 4 → a ≤ i → a + 4 ≤ i
     away i lo hi h = ⊎_elim (λ (l : j < a + 4). omega (arith, o l)) (λ (l : a + 4 ≤ j). omega arith) (below_or_above j (a + 4))
 
   pub word-put_word_same : a + 4 ≤ length xs → v < 2 ^ 32 → word (put_word xs a v) a ≡ v
   unfolding word
   word-put_word_same l h =
-      let byte = get_d_put_word_same xs a v in
+      let byte = get_or-put_word_same xs a v in
       let b0 : get_or (put_word xs a v) a 0 ≡ bits v 0 8 = rw add-zero at (byte 0 (omega arith) (omega arith)) in
       rw (b0, byte 1 (omega arith) (omega arith), byte 2 (omega arith) (omega arith), byte 3 (omega arith) (omega arith))
       (bytes_of v h)
@@ -94,11 +94,11 @@ four_or_outside a i =
 
 pub bytes_put_word : (xs : List ℕ) (a v : ℕ) → Bytes xs → Bytes (put_word xs a v)
 bytes_put_word xs a v b i =
-    ⊎_elim (λ (l : i < length xs). ⊎_elim (within l) (λ o. rw (get_d_put_word_other xs a v i o) (b i)) (four_or_outside a i))
+    ⊎_elim (λ (l : i < length xs). ⊎_elim (within l) (λ o. rw (get_or-put_word_other xs a v i o) (b i)) (four_or_outside a i))
     beyond
     (below_or_above i (length xs)) where
       within : i < length xs → (k : ℕ) × (k < 4) × (i ≡ a + k) → get_or (put_word xs a v) i 0 < 2 ^ 8
-      within l (k, h, e) = rw e (rw (get_d_put_word_same xs a v k h (omega arith)) (omega arith))
+      within l (k, h, e) = rw e (rw (get_or-put_word_same xs a v k h (omega arith)) (omega arith))
 
       beyond : length xs ≤ i → get_or (put_word xs a v) i 0 < 2 ^ 8
       beyond l =
@@ -126,12 +126,12 @@ put_word_self xs a b =
     rw (e0, e1, e2, e3) (simp set-get_or)
 
 -- a byte after a store depends on the byte before it only outside the four
-get_d_put_word_cong : (xs ys : List ℕ) (a v i : ℕ) → length xs ≡ length ys → i < length xs → ((a ≤ i → a + 4 ≤ i) → get_or xs i 0 ≡ get_or ys i 0)
+get_or-put_word_cong : (xs ys : List ℕ) (a v i : ℕ) → length xs ≡ length ys → i < length xs → ((a ≤ i → a + 4 ≤ i) → get_or xs i 0 ≡ get_or ys i 0)
     → get_or (put_word xs a v) i 0 ≡ get_or (put_word ys a v) i 0
-get_d_put_word_cong xs ys a v i n l same =
-    ⊎_elim four (λ o. get_d_put_word_other xs a v i o ∙ same o ∙ sym (get_d_put_word_other ys a v i o)) (four_or_outside a i) where
+get_or-put_word_cong xs ys a v i n l same =
+    ⊎_elim four (λ o. get_or-put_word_other xs a v i o ∙ same o ∙ sym (get_or-put_word_other ys a v i o)) (four_or_outside a i) where
       four : (k : ℕ) × (k < 4) × (i ≡ a + k) → get_or (put_word xs a v) i 0 ≡ get_or (put_word ys a v) i 0
-      four (k, h, e) = rw e (get_d_put_word_same xs a v k h (omega arith) ∙ sym (get_d_put_word_same ys a v k h (omega arith)))
+      four (k, h, e) = rw e (get_or-put_word_same xs a v k h (omega arith) ∙ sym (get_or-put_word_same ys a v k h (omega arith)))
 
 module _ (xs : List ℕ) (a u v : ℕ) where
   -- stores apart from each other commute
@@ -142,10 +142,10 @@ module _ (xs : List ℕ) (a u v : ℕ) where
       four : (k : ℕ) × (k < 4) × (i ≡ a + k) → get_or (put_word (put_word xs a u) j v) i 0 ≡ get_or (put_word (put_word xs j v) a u) i 0
       four (k, h, e) =
           let away : j ≤ i → j + 4 ≤ i = λ m. omega (arith, o (omega arith)) in
-          get_d_put_word_other (put_word xs a u) j v i away
-          ∙ get_d_put_word_cong xs (put_word xs j v) a u i (sym (length-put_word xs j v)) (simp length-put_word at l) (λ _. sym (get_d_put_word_other xs j v i away))
+          get_or-put_word_other (put_word xs a u) j v i away
+          ∙ get_or-put_word_cong xs (put_word xs j v) a u i (sym (length-put_word xs j v)) (simp length-put_word at l) (λ _. sym (get_or-put_word_other xs j v i away))
 
       outside : (a ≤ i → a + 4 ≤ i) → get_or (put_word (put_word xs a u) j v) i 0 ≡ get_or (put_word (put_word xs j v) a u) i 0
       outside out =
-          get_d_put_word_cong (put_word xs a u) xs j v i (length-put_word xs a u) (rw (length-put_word (put_word xs a u) j v) at l) (λ _. get_d_put_word_other xs a u i out)
-          ∙ sym (get_d_put_word_other (put_word xs j v) a u i out)
+          get_or-put_word_cong (put_word xs a u) xs j v i (length-put_word xs a u) (rw (length-put_word (put_word xs a u) j v) at l) (λ _. get_or-put_word_other xs a u i out)
+          ∙ sym (get_or-put_word_other (put_word xs j v) a u i out)
