@@ -179,20 +179,20 @@ module _ (left left' left'' held held' held'' : Option (List ℕ)) {s after : St
   due_is : take end text ≡ due arrival (session s rest number false) behind
   due_is = stored_front text₀ _ text end a.text_is fits
 
-  pub breaks_off : (error : Error) → AppendsPart held' held'' (take end text) → Printed left left'' held held'' after number' (WriteFailed error)
-  breaks_off error w =
+  pub exchange_breaks_off : (error : Error) → AppendsPart held' held'' (take end text) → Printed left left'' held held'' after number' (WriteFailed error)
+  exchange_breaks_off error w =
       let finished : Finished left left'' held held'' (session after rest' number' (is_bad state)) (WriteFailed error) =
       rw a.session_is (fails left left' left'' held held' held'' refl behind x arrival error t (rw due_is at w)) in
       printed finished tt
 
-  pub concludes : is_open state ≡ false → (arrival ≡ End → IsAtEnd left'') → Appends held' held'' (take end text) → Printed left left'' held held'' after number' state
-  concludes closed ended w =
+  pub exchange_concludes : is_open state ≡ false → (arrival ≡ End → IsAtEnd left'') → Appends held' held'' (take end text) → Printed left left'' held held'' after number' state
+  exchange_concludes closed ended w =
       let finished : Finished left left'' held held'' (session after rest' number' (is_bad state)) state =
       rw a.session_is (closes left left' left'' held held' held'' refl behind x arrival (is_bad state) a.state_is closed t ended (rw due_is at w)) in
       printed finished (reasons arrival (is_bad state) state number' a.state_is closed)
 
-  pub stays_open : is_open state ≡ true → Appends held' held'' (take end text) → Exchanged left left'' held held'' (session after rest' number' false)
-  stays_open going w =
+  pub exchange_stays_open : is_open state ≡ true → Appends held' held'' (take end text) → Exchanged left left'' held held'' (session after rest' number' false)
+  exchange_stays_open going w =
       let on = goes_on left left' left'' held held' held'' refl behind x arrival (is_bad state) (rw a.state_is at going) t (rw due_is at w) in
       let same : Exchanged left left'' held held'' (session after rest' number' (is_bad state)) = rw a.session_is on in
       rw (open_false state going) at same
