@@ -101,7 +101,7 @@ static uint32_t forget_written(uint32_t block)
 /* The guest has written a table by which it can write the code. */
 static void requests_by_create(void)
 {
-    const uint32_t entry = PAGEMON_PAGE_WORD(CODE, WRITES, PAGEMON_KIND_WRITE_BACK);
+    const uint32_t entry = CODE << 12 | 0x03F;
     start();
     for (int i = 0; i < 4; i++) {
         memory[NEW_PAGES * PAGEMON_BLOCK_BYTES + i] = (uint8_t)(entry >> 8 * i);

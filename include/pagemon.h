@@ -38,6 +38,7 @@
 #ifndef PAGEMON_H
 #define PAGEMON_H
 
+#include <stddef.h>
 #include <stdint.h>
 
 #ifdef __cplusplus
@@ -224,6 +225,7 @@ enum pagemon_answer {
     PAGEMON_BROKEN_WALK = 24         /* guest: the walk meets an entry that is not accepted, or that leads outside the region in part */
 };
 
+#if defined(__cplusplus) || (defined(__STDC_VERSION__) && __STDC_VERSION__ >= 199901L)
 /* The name of an answer, for logs: that of the enum, in small letters. "unknown answer" for every other number. */
 static inline const char *pagemon_answer_name(uint32_t answer)
 {
@@ -249,6 +251,7 @@ static inline const char *pagemon_answer_name(uint32_t answer)
     default: return "unknown answer";
     }
 }
+#endif
 
 /*
  * Starts a region whose first block is `first_block`, with all eight memory kinds PAGEMON_KIND_WRITE_BACK. Refusal: 1, with `first_block` in the

@@ -5,7 +5,7 @@
 #include <stdio.h>
 #include <string.h>
 
-enum { BLOCKS = 16, FIRST = 0x100, WRITES = PAGEMON_READ | PAGEMON_WRITE, EXECUTES = PAGEMON_READ | PAGEMON_EXECUTE };
+enum { BLOCKS = 16, FIRST = 0x100 };
 
 static int failures = 0;
 
@@ -83,10 +83,10 @@ static void accesses(void)
     uint8_t byte;
     uint8_t *table = memory + 4 * PAGEMON_BLOCK_BYTES, *pages = memory + 8 * PAGEMON_BLOCK_BYTES;
     expect(read_byte(0x12345678, &byte) == PAGEMON_FAULT_ENTRY && byte == 0, "read at a fault");
-    put_word(table + 4 * 0x123, PAGEMON_LINK_WORD(FIRST + 8, 2));
-    put_word(pages + 4 * PAGEMON_L2_INDEX(2, 0x45), PAGEMON_PAGE_WORD(FIRST + 10, WRITES, PAGEMON_KIND_WRITE_BACK));
-    put_word(pages + 4 * PAGEMON_L2_INDEX(2, 0x46), PAGEMON_PAGE_WORD(FIRST + 11, EXECUTES, PAGEMON_KIND_WRITE_BACK));
-    put_word(pages + 4 * PAGEMON_L2_INDEX(2, 0x47), PAGEMON_PAGE_WORD(FIRST + BLOCKS, EXECUTES, PAGEMON_KIND_WRITE_BACK));
+    put_word(table + 4 * 0x123, (FIRST + 8) * 4096u + 2 * 1024 + 1);
+    put_word(pages + 4 * (512 + 0x45), (FIRST + 10) * 4096u + 0x03F);
+    put_word(pages + 4 * (512 + 0x46), (FIRST + 11) * 4096u + 0x02E);
+    put_word(pages + 4 * (512 + 0x47), (FIRST + BLOCKS) * 4096u + 0x02E);
     for (uint32_t block = 9; block <= 11; block++) {
         put_word(mark(block), PAGEMON_MARKED);
     }

@@ -130,7 +130,7 @@ static void create(void)
 {
     start();
     for (uint32_t index = 0; index < PAGEMON_L2_ENTRIES; index++) {
-        put_word(block(NEW_PAGES) + 4 * index, PAGEMON_PAGE_WORD(CODE, EXECUTES, PAGEMON_KIND_WRITE_BACK));
+        put_word(block(NEW_PAGES) + 4 * index, CODE << 12 | 0x02E);
     }
     expect_given(pagemon_create_l2(REGION, IMAGE, NEW_PAGES, &numbers[1]), PAGEMON_ACCEPTED, 1, "create");
     expect(mark(CODE) == PAGEMON_MARKED && mark(NEW_PAGES) == 0, "marks after create");

@@ -4,7 +4,7 @@ use std::ops::Range;
 
 const CANARY: u8 = 0xC5;
 /// The fewest canaries before a copy, and behind it.
-const GUARD: usize = 64;
+const GUARD: usize = 256;
 
 /// Room for all that a call on the largest region is lent.
 pub const ROOM: usize = 20 << 20;

@@ -1,5 +1,6 @@
 //! The exported calls beside an independent implementation.
 pub mod bytes;
+pub mod canaries;
 pub mod cases;
 pub mod compare;
 pub mod demand;
