@@ -1,7 +1,7 @@
 -- `entries::entry::place_first` meets its contract: each case of the enum is a clause of the definition.
 use native.Mathlib.Nat.{mul_comm}
 use Rattle.entries.specs.Entries.{place_first}
-use Rattle.entries.proofs.entry.place_first.Goals as goal
+use Rattle.entries.proofs.entry.Entry.place_first.Goals as goal
 
 pub returns-in-Link : goal.returns-in-Link
 unfolding place_first

@@ -1,6 +1,6 @@
 -- `entries::entry::cover_first` meets its contract: each case of the enum is a clause of the definition.
 use Rattle.entries.specs.Entries.{cover_first}
-use Rattle.entries.proofs.entry.cover_first.Goals as goal
+use Rattle.entries.proofs.entry.Entry.cover_first.Goals as goal
 
 pub returns-in-Link : goal.returns-in-Link
 unfolding cover_first
