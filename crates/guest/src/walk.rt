@@ -37,13 +37,13 @@ fn stop_number(e: Entry, first: u32, n: usize) -> u32
     requires { first + n ≤ physical_blocks }
     ensures { NumberAt first n (meaning e) result }
 {
-    if entry::is_unaccepted(e) {
+    if e.is_unaccepted() {
         return BROKEN_WALK;
     }
     if is_astray(e, first, n) {
         return BROKEN_WALK;
     }
-    if entry::is_fault(e) {
+    if e.is_fault() {
         return FAULT_ENTRY;
     }
     ACCEPTED
@@ -59,8 +59,8 @@ fn ends_at(level: Level, e: Entry, first: u32, n: usize, address: u32) -> Walk
         return Walk::Stops { number, level };
     }
     Walk::Ends {
-        block: entry::cover_first(e) + address / (BLOCK_BYTES as u32) % entry::cover_blocks(e),
-        rights: entry::rights(e),
+        block: e.cover_first() + address / (BLOCK_BYTES as u32) % e.cover_blocks(),
+        rights: e.rights(),
         level,
     }
 }

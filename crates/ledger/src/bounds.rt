@@ -11,7 +11,7 @@ ghost use Rattle.ledger.specs.Needs.{EntryRecorded, Fits, GrantsInside, GrantsRe
 
 use crate::counters::{Change, Counter, counter_word, grants};
 use crate::layout::{COUNTER_LIMIT, record_of, record_word};
-use entries::entry::{Entry, cover_blocks, cover_first};
+use entries::entry::Entry;
 
 fn is_beyond(x: u32, least: u32, most: u32) -> bool
     ensures { result ≡ beyond least most x }
@@ -71,7 +71,7 @@ pub fn entry_beyond(ledger: &[u8], e: Entry, least: u32, most: u32) -> bool
     requires { EntryRecorded ledger.now (meaning e) }
     ensures { result ≡ entry_beyond least most ledger.now (meaning e) }
 {
-    blocks_beyond(ledger, e, cover_first(e), cover_blocks(e), least, most)
+    blocks_beyond(ledger, e, e.cover_first(), e.cover_blocks(), least, most)
 }
 
 // The least and the greatest value of a counter that can change by one without an overrun.

@@ -45,9 +45,9 @@ pub fn grants(counter: Counter, e: Entry) -> bool
     ensures { result ≡ grants (counter_of counter) (meaning e) }
 {
     match counter {
-        Counter::Writable => allows(entries::entry::rights(e), Right::Write),
-        Counter::Executable => allows(entries::entry::rights(e), Right::Execute),
-        Counter::Linked => entries::entry::is_link(e),
+        Counter::Writable => allows(e.rights(), Right::Write),
+        Counter::Executable => allows(e.rights(), Right::Execute),
+        Counter::Linked => e.is_link(),
     }
 }
 
@@ -55,13 +55,13 @@ pub fn grants(counter: Counter, e: Entry) -> bool
 pub fn grants_some(e: Entry) -> bool
     ensures { result ≡ some_counter (λ c. grants c (meaning e)) }
 {
-    if entries::entry::is_fault(e) {
+    if e.is_fault() {
         return false;
     }
-    if entries::entry::is_link(e) {
+    if e.is_link() {
         return true;
     }
-    words::bits(entries::entry::rights(e), 1, 2) != 0
+    words::bits(e.rights(), 1, 2) != 0
 }
 
 fn end_value(change: Change, old: u32) -> u32
@@ -127,7 +127,7 @@ pub fn change_entry(change: Change, memory: &[u8], ledger: &mut [u8], e: Entry)
         memory,
         ledger,
         e,
-        entries::entry::cover_first(e),
-        entries::entry::cover_blocks(e),
+        e.cover_first(),
+        e.cover_blocks(),
     );
 }

@@ -70,9 +70,9 @@ pub fn is_astray(e: Entry, first: u32, n: usize) -> bool
     requires { n < 2 ^ 32 }
     ensures { result ≡ astray first n (meaning e) }
 {
-    let m = entry::place_blocks(e);
+    let m = e.place_blocks();
     if m == 0 {
         return false;
     }
-    is_outside(first, n, entry::place_first(e), m)
+    is_outside(first, n, e.place_first(), m)
 }

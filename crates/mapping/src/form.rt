@@ -7,10 +7,7 @@ ghost use Rattle.mapping.specs.Meaning.{form_of};
 ghost use Rattle.mapping.specs.Needs.{Positive};
 
 use entries::encode::{large_word, page_word, section_word};
-use entries::entry::{
-    Entry, LARGE_BLOCKS, Level, Mapping, RUN_WORDS, SECTION_BLOCKS, is_fault, is_large, is_link,
-    is_page, is_section,
-};
+use entries::entry::{Entry, LARGE_BLOCKS, Level, Mapping, RUN_WORDS, SECTION_BLOCKS};
 
 #[derive(Clone, Copy)]
 pub enum Form {
@@ -87,10 +84,10 @@ pub fn mapping_word(form: Form, kind: u32, target: u32, rights: u32) -> u32
 fn is_taken_in_l1(e: Entry) -> bool
     ensures { result ≡ tables.takes tables.sections (meaning e) }
 {
-    if is_fault(e) {
+    if e.is_fault() {
         return true;
     }
-    is_section(e) || is_link(e)
+    e.is_section() || e.is_link()
 }
 
 // The form's unmap takes the entry away.
@@ -99,7 +96,7 @@ pub fn takes(form: Form, e: Entry) -> bool
 {
     match form {
         Form::Sections => is_taken_in_l1(e),
-        Form::Pages => is_fault(e) || is_page(e),
-        Form::Larges => is_large(e),
+        Form::Pages => e.is_fault() || e.is_page(),
+        Form::Larges => e.is_large(),
     }
 }

@@ -12,7 +12,7 @@ ghost use Rattle.mapping.specs.Pieces.{removal_refusals, slot_refusals};
 
 use crate::form::{Form, level, mapping_words, takes};
 use crate::slot::{entry_in, holder_refusal, write_entries};
-use entries::entry::{Entry, place_blocks, place_first};
+use entries::entry::Entry;
 use ledger::bounds::blocks_overrun;
 use ledger::counters::Change;
 use ledger::layout::base;
@@ -41,8 +41,8 @@ fn removal_refusal(form: Form, memory: &[u8], ledger: &[u8], e: Entry) -> u32
         memory,
         ledger,
         e,
-        place_first(e),
-        place_blocks(e),
+        e.place_first(),
+        e.place_blocks(),
     ) {
         return OVERRUN;
     }
@@ -93,8 +93,8 @@ pub fn unmap(form: Form, memory: &mut [u8], ledger: &mut [u8], block: u32, index
         mapping_words(form),
         FAULT_WORD,
         e,
-        place_first(e),
-        place_blocks(e),
+        e.place_first(),
+        e.place_blocks(),
     );
     ACCEPTED
 }

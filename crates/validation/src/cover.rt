@@ -7,7 +7,7 @@ ghost use Rattle.ledger.specs.Meaning.{counter_of};
 ghost use Rattle.validation.specs.Needs.{CoverRecorded};
 ghost use Rattle.validation.specs.Tests.{overlap, some_covered};
 
-use entries::entry::{Entry, cover_blocks, cover_first};
+use entries::entry::Entry;
 use ledger::counters::{Counter, counter_word};
 use ledger::layout::{TYPE, record_of};
 use ledger::scan::{some_above_zero, some_differs};
@@ -27,8 +27,8 @@ pub fn cover_differs(ledger: &[u8], e: Entry, t: u32) -> bool
     requires { CoverRecorded ledger.now (meaning e) }
     ensures { result ≡ some_covered ledger.now type_word (meaning e) (λ x. neqb x t) }
 {
-    let b = record_of(ledger, cover_first(e));
-    some_differs(ledger, TYPE, b, cover_blocks(e) as usize, t)
+    let b = record_of(ledger, e.cover_first());
+    some_differs(ledger, TYPE, b, e.cover_blocks() as usize, t)
 }
 
 // Some block's counter is above 0.
@@ -36,6 +36,6 @@ pub fn cover_counts(ledger: &[u8], counter: Counter, e: Entry) -> bool
     requires { CoverRecorded ledger.now (meaning e) }
     ensures { result ≡ some_covered ledger.now (counter_word (counter_of counter)) (meaning e) (λ x. above x 0) }
 {
-    let b = record_of(ledger, cover_first(e));
-    some_above_zero(ledger, counter_word(counter), b, cover_blocks(e) as usize)
+    let b = record_of(ledger, e.cover_first());
+    some_above_zero(ledger, counter_word(counter), b, e.cover_blocks() as usize)
 }

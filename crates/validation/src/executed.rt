@@ -16,7 +16,7 @@ ghost use Rattle.validation.specs.Tests.{entry_from, meets_count};
 use crate::hash::{UNKNOWN, hash_members};
 use crate::set::{contains, contains_some, insert_blocks};
 use entries::decode::accepted_entry_at;
-use entries::entry::{Entry, Level, cover_blocks, cover_first};
+use entries::entry::{Entry, Level};
 use ledger::counters::{Counter, grants};
 use ledger::layout::record_of;
 use ledger::marks::mark;
@@ -28,8 +28,8 @@ pub fn insert_executed(memory: &[u8], ledger: &[u8], members: &mut [u8], e: Entr
     ensures { (k : ℕ) → member members.new k ≡ (member members.old k || gives executable (meaning e) (store.base (lent memory.now ledger.now) + k)) }
 {
     if grants(Counter::Executable, e) {
-        let b = record_of(ledger, cover_first(e));
-        insert_blocks(members, b, cover_blocks(e) as usize);
+        let b = record_of(ledger, e.cover_first());
+        insert_blocks(members, b, e.cover_blocks() as usize);
     }
 }
 
@@ -39,8 +39,8 @@ fn meets_members(memory: &[u8], ledger: &[u8], members: &[u8], e: Entry) -> bool
     ensures { result ≡ meets_members ledger.now members.now (meaning e) }
 {
     if grants(Counter::Writable, e) {
-        let b = record_of(ledger, cover_first(e));
-        return contains_some(members, b, cover_blocks(e) as usize);
+        let b = record_of(ledger, e.cover_first());
+        return contains_some(members, b, e.cover_blocks() as usize);
     }
     false
 }

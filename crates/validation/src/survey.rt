@@ -11,7 +11,7 @@ ghost use Rattle.validation.specs.Tests.{entry_from};
 use crate::finding::{FINE, MISPLACED, UNACCEPTED, greater};
 use crate::target::entry_finding;
 use entries::decode::entry_at;
-use entries::entry::{Entry, Level, is_fault, is_unaccepted};
+use entries::entry::{Entry, Level};
 use ledger::region::is_astray;
 
 // The greater of what was found before and what is found of one more entry, of a table that is created at a block. Faults, which fill most tables, are told first.
@@ -29,7 +29,7 @@ fn found_with(
     ensures value { result ≡ greater found (entry_finding (level_of level) (lent memory.now ledger.now) block (meaning e)) }
     ensures gathered { result < 2 → Gathered (lent memory.now ledger.now) (meaning e) members.old members.new writes.old writes.new }
 {
-    if is_fault(e) {
+    if e.is_fault() {
         return found;
     }
     greater(
@@ -71,7 +71,7 @@ fn place_finding(e: Entry, first: u32, n: usize) -> u32
     requires { n < 2 ^ 32 }
     ensures { result ≡ place_finding first n (meaning e) }
 {
-    if is_unaccepted(e) {
+    if e.is_unaccepted() {
         return UNACCEPTED;
     }
     if is_astray(e, first, n) {

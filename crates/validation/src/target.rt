@@ -14,7 +14,7 @@ ghost use Rattle.validation.specs.Tests.{meets, meets_count, unfit};
 use crate::cover::{cover_counts, cover_differs, overlap};
 use crate::executed::insert_executed;
 use crate::finding::{EXECUTES, FINE, MEETS_COUNT, MISPLACED, UNACCEPTED};
-use entries::entry::{Entry, Level, cover_blocks, cover_first, is_link, is_unaccepted};
+use entries::entry::{Entry, Level};
 use ledger::counters::{Counter, grants, grants_some};
 use ledger::layout::{TYPE_D, TYPE_L2, base};
 use ledger::region::{blocks, is_astray};
@@ -25,7 +25,7 @@ fn is_unfit_link(memory: &[u8], ledger: &[u8], e: Entry) -> bool
     requires { EntryRecorded ledger.now (meaning e) }
     ensures { result ≡ unfit_link (lent memory.now ledger.now) (meaning e) }
 {
-    if is_link(e) {
+    if e.is_link() {
         return cover_differs(ledger, e, TYPE_L2);
     }
     false
@@ -42,7 +42,7 @@ fn is_unfit_write(level: Level, memory: &[u8], ledger: &[u8], block: u32, e: Ent
     if cover_differs(ledger, e, TYPE_D) {
         return true;
     }
-    overlap(cover_first(e), cover_blocks(e), block, table_blocks(level))
+    overlap(e.cover_first(), e.cover_blocks(), block, table_blocks(level))
 }
 
 // Its target is unfit.
@@ -130,7 +130,7 @@ pub fn entry_finding(
     ensures value { result ≡ entry_finding (level_of level) (lent memory.now ledger.now) block (meaning e) }
     ensures gathered { result < 2 → Gathered (lent memory.now ledger.now) (meaning e) members.old members.new writes.old writes.new }
 {
-    if is_unaccepted(e) {
+    if e.is_unaccepted() {
         return UNACCEPTED;
     }
     if is_astray(e, base(ledger), blocks(memory)) {
