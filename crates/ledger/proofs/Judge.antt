@@ -4,11 +4,35 @@ use mathlib.Core.List.{List, [], ◌∷◌, ◌++◌}
 use mathlib.Core.Logic.{◌≢◌}
 use mathlib.Core.Path.{◌≡◌, refl, sym, ◌∙◌}
 use Prim.Native.Nat.{ℕ, zero, suc}
+use native.Mathlib.Omega.{arith}
 use Rattle.rules.specs.Refusals.{Refusal, ◌if◌, answer_of}
 use Rattle.rules.specs.Store.{Store, lent}
 use Rattle.rules.specs.Outcomes.{Accepted, settle, call_outcome}
 use Rattle.rules.proofs.Refusals.{decides as decided, Passed, done, step}
+use Rattle.ledger.specs.Refusals.{number_of}
+use Rattle.ledger.specs.declared.refusals.Refusal as refusals
+use Rattle.ledger.specs.declared.refusals.Refusal.TheVariants.{Misfit, OutsideRegion, Misaligned, BeyondTable, WrongType, InUse, ExecutableHolder, WrongEntry, UnlawfulRights, UnfitTarget, Clash, Unsigned, Overrun, NoActiveTable, FaultEntry, RightLacking, BrokenWalk}
 pub use Rattle.rules.proofs.Refusals.{Decides, here, past, none}
+
+-- no refusal has the number of an accepted call
+pub refuses : (r : refusals.Refusal) → number_of r ≢ 0
+refuses Misfit e = absurd (omega arith)
+refuses OutsideRegion e = absurd (omega arith)
+refuses Misaligned e = absurd (omega arith)
+refuses BeyondTable e = absurd (omega arith)
+refuses WrongType e = absurd (omega arith)
+refuses InUse e = absurd (omega arith)
+refuses ExecutableHolder e = absurd (omega arith)
+refuses WrongEntry e = absurd (omega arith)
+refuses UnlawfulRights e = absurd (omega arith)
+refuses UnfitTarget e = absurd (omega arith)
+refuses Clash e = absurd (omega arith)
+refuses Unsigned e = absurd (omega arith)
+refuses Overrun e = absurd (omega arith)
+refuses NoActiveTable e = absurd (omega arith)
+refuses FaultEntry e = absurd (omega arith)
+refuses RightLacking e = absurd (omega arith)
+refuses BrokenWalk e = absurd (omega arith)
 
 pub decides : {rs : List Refusal} {a : ℕ} → Decides rs a → a ≡ answer_of rs
 decides d = sym (decided d)

@@ -1,5 +1,6 @@
 pub mod Blocks
 pub mod Counting
+pub mod Fields
 pub mod Fits
 pub mod Judge
 pub mod Marking

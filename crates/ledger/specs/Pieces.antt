@@ -3,9 +3,13 @@ use Rattle.std.specs.Prelude.{Bool, ◌||◌, List, [], ◌∷◌, ℕ, ◌/◌,
 use Rattle.words.specs.Bounded.{above}
 use Rattle.entries.specs.Entries.{Level}
 use Rattle.rules.specs.Refusals.{Refusal, ◌if◌}
-use Rattle.rules.specs.Store.{Store, greatest_kind}
+use Rattle.rules.specs.Store.{Store, greatest_kind, misfit_stored}
 use Rattle.rules.specs.Tables.{table_blocks}
 use Rattle.rules.specs.General.{table_outside, misaligned, other_type}
+
+-- refusal 1: of the memory, the ledger and what stands in its head
+abbrev pub misfit_refusals : Store → List Refusal
+misfit_refusals s = 1 if misfit_stored s ∷ []
 
 -- refusal 2, refusal 3: of a table at block p; an L2 block is never refused with 3
 abbrev pub place_refusals : Level → Store → ℕ → List Refusal

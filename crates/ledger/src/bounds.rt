@@ -3,14 +3,17 @@ ghost use Rattle.std.specs.Prelude.{◌≡◌, ℕ, ◌+◌, ◌<◌};
 ghost use Rattle.words.specs.Bounded.{any};
 ghost use Rattle.entries.specs.Entries as specified;
 ghost use Rattle.entries.specs.Meaning.{meaning};
-ghost use Rattle.rules.specs.Store.{lent, record_word, record_words};
+ghost use Rattle.rules.specs.Store.{record_word};
 ghost use Rattle.rules.specs.General.{some_overrun};
 ghost use Rattle.ledger.specs.Counters.{Spreads, beyond, blocks_beyond, counter_beyond, entry_beyond, least_before, most_before};
 ghost use Rattle.ledger.specs.Meaning.{change_of, counter_of};
-ghost use Rattle.ledger.specs.Needs.{EntryRecorded, Fits, GrantsInside, GrantsRecorded, InLedger};
+ghost use Rattle.ledger.specs.Layout.{field_word};
+ghost use Rattle.ledger.specs.Needs.{EntryRecorded, GrantsInside, GrantsRecorded, InLedger};
+ghost use Rattle.ledger.specs.Regions.{store_of};
 
-use crate::counters::{Change, Counter, counter_word, grants};
-use crate::layout::{COUNTER_LIMIT, record_of, record_word};
+use crate::counters::{Change, Counter, grants};
+use crate::layout::{COUNTER_LIMIT, Field, record_of, record_word};
+use crate::region::Region;
 use entries::entry::Entry;
 
 fn is_beyond(x: u32, least: u32, most: u32) -> bool
@@ -19,13 +22,13 @@ fn is_beyond(x: u32, least: u32, most: u32) -> bool
     x < least || most < x
 }
 
-// Word k is below least or above most in some of the m records from block b on.
-fn some_beyond(ledger: &[u8], k: usize, b: usize, m: usize, least: u32, most: u32) -> bool
-    requires { (k < record_words) × InLedger ledger.now (b + m) }
-    ensures { result ≡ any m (λ i. beyond least most (record_word ledger.now k (b + i))) }
+// The field is below least or above most in some of the m records from block b on.
+fn some_beyond(ledger: &[u8], field: Field, b: usize, m: usize, least: u32, most: u32) -> bool
+    requires { InLedger ledger.now (b + m) }
+    ensures { result ≡ any m (λ i. beyond least most (record_word ledger.now (field_word field) (b + i))) }
 {
     for i in 0..m {
-        if is_beyond(record_word(ledger, k, b + i), least, most) {
+        if is_beyond(record_word(ledger, field, b + i), least, most) {
             return true;
         }
     }
@@ -49,7 +52,7 @@ fn counter_beyond(
         return false;
     }
     let b = record_of(ledger, p);
-    some_beyond(ledger, counter_word(counter), b, m as usize, least, most)
+    some_beyond(ledger, counter.field(), b, m as usize, least, most)
 }
 
 // Some counter that it grants is.
@@ -93,18 +96,19 @@ fn most_before(change: Change) -> u32
     }
 }
 
-// Some counter would overrun if what the entry grants were added to the m blocks from p on, or taken away there. Of the memory only the number of
-// blocks matters.
-pub fn blocks_overrun(
-    change: Change,
-    memory: &[u8],
-    ledger: &[u8],
-    e: Entry,
-    p: u32,
-    m: u32,
-) -> bool
-    requires { Fits memory.now ledger.now × GrantsInside memory.now ledger.now (meaning e) p m }
-    ensures { (n : ℕ) (x : ℕ → specified.Entry) → Spreads n x (meaning e) p m → result ≡ some_overrun (change_of change) (lent memory.now ledger.now) n x }
-{
-    blocks_beyond(ledger, e, p, m, least_before(change), most_before(change))
+impl Region<'_> {
+    // Some counter would overrun if what the entry grants were added to the m blocks from p on, or taken away there.
+    pub fn blocks_overrun(&self, change: Change, e: Entry, p: u32, m: u32) -> bool
+        requires { GrantsInside self.now.memory.now self.now.ledger.now (meaning e) p m }
+        ensures { (n : ℕ) (x : ℕ → specified.Entry) → Spreads n x (meaning e) p m → result ≡ some_overrun (change_of change) (store_of self.now) n x }
+    {
+        blocks_beyond(
+            self.ledger,
+            e,
+            p,
+            m,
+            least_before(change),
+            most_before(change),
+        )
+    }
 }

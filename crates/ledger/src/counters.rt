@@ -1,17 +1,17 @@
 // The counters w, x and l: what an entry adds to them, or takes away.
 ghost use Rattle.std.specs.Prelude.{◌≡◌, false, ℕ, ◌+◌, ◌<◌};
-ghost use Rattle.words.specs.Bounded.{Small};
 ghost use Rattle.entries.specs.Entries as specified;
 ghost use Rattle.entries.specs.Meaning.{meaning};
 ghost use Rattle.rules.specs.Store as store;
-ghost use Rattle.rules.specs.Store.{base as stored_base, blocks, counter_word, lent, put_record_word, record_word, record_words, some_counter};
+ghost use Rattle.rules.specs.Store.{base as stored_base, blocks, counter_word, lent, put_record_word, record_word, some_counter};
 ghost use Rattle.rules.specs.Tables.{astray, grants};
 ghost use Rattle.rules.specs.General.{end_value, recounted};
 ghost use Rattle.ledger.specs.Counters.{Spreads, changed, changed_counter};
+ghost use Rattle.ledger.specs.Layout.{field_word};
 ghost use Rattle.ledger.specs.Meaning.{change_of, counter_of};
 ghost use Rattle.ledger.specs.Needs.{Changeable, Countable, Fits, GrantsInside, GrantsRecorded, InLedger};
 
-use crate::layout::{EXECUTABLE, LINKED, WRITABLE, put_record_word, record_of, record_word};
+use crate::layout::{Field, put_record_word, record_of, record_word};
 use entries::entry::Entry;
 use entries::rights::{Right, allows};
 
@@ -29,14 +29,16 @@ pub enum Counter {
     Linked,
 }
 
-// The counter's word in a record.
-pub fn counter_word(counter: Counter) -> usize
-    ensures { Small (counter_word (counter_of counter)) record_words result }
-{
-    match counter {
-        Counter::Writable => WRITABLE,
-        Counter::Executable => EXECUTABLE,
-        Counter::Linked => LINKED,
+impl Counter {
+    // The counter's field of a record.
+    pub fn field(self) -> Field
+        ensures { field_word result ≡ counter_word (counter_of self) }
+    {
+        match self {
+            Counter::Writable => Field::Writable,
+            Counter::Executable => Field::Executable,
+            Counter::Linked => Field::Linked,
+        }
     }
 }
 
@@ -74,22 +76,22 @@ fn end_value(change: Change, old: u32) -> u32
     }
 }
 
-// Changes word k of block b's record by one.
-fn change_word(change: Change, ledger: &mut [u8], k: usize, b: usize)
-    requires { (k < record_words) × InLedger ledger.old (b + 1) × Changeable (change_of change) (record_word ledger.old k b) }
-    ensures { ledger.new ≡ put_record_word ledger.old k b (end_value (change_of change) (record_word ledger.old k b) 1) }
+// Changes a field of block b's record by one.
+fn change_word(change: Change, ledger: &mut [u8], field: Field, b: usize)
+    requires { InLedger ledger.old (b + 1) × Changeable (change_of change) (record_word ledger.old (field_word field) b) }
+    ensures { ledger.new ≡ put_record_word ledger.old (field_word field) b (end_value (change_of change) (record_word ledger.old (field_word field) b) 1) }
 {
-    let old = record_word(ledger, k, b);
-    put_record_word(ledger, k, b, end_value(change, old));
+    let old = record_word(ledger, field, b);
+    put_record_word(ledger, field, b, end_value(change, old));
 }
 
 // The same for the m records from block b on.
-fn change_words(change: Change, ledger: &mut [u8], k: usize, b: usize, m: usize)
-    requires { (k < record_words) × InLedger ledger.old (b + m) × ((i : ℕ) → i < m → Changeable (change_of change) (record_word ledger.old k (b + i))) }
-    ensures { ledger.new ≡ changed (change_of change) ledger.old k b m }
+fn change_words(change: Change, ledger: &mut [u8], field: Field, b: usize, m: usize)
+    requires { InLedger ledger.old (b + m) × ((i : ℕ) → i < m → Changeable (change_of change) (record_word ledger.old (field_word field) (b + i))) }
+    ensures { ledger.new ≡ changed (change_of change) ledger.old (field_word field) b m }
 {
     for i in 0..m {
-        change_word(change, ledger, k, b + i);
+        change_word(change, ledger, field, b + i);
     }
 }
 
@@ -100,7 +102,7 @@ fn change_counter(change: Change, ledger: &mut [u8], counter: Counter, e: Entry,
 {
     if grants(counter, e) {
         let b = record_of(ledger, p);
-        change_words(change, ledger, counter_word(counter), b, m as usize);
+        change_words(change, ledger, counter.field(), b, m as usize);
     }
 }
 
@@ -122,12 +124,5 @@ pub fn change_entry(change: Change, memory: &[u8], ledger: &mut [u8], e: Entry)
     requires countable { (c : store.Counter) → Countable (change_of change) ledger.old c (meaning e) (specified.cover_first (meaning e)) (specified.cover_blocks (meaning e)) }
     ensures { ledger.new ≡ recounted (change_of change) (lent memory.now ledger.old) 1 (λ k. meaning e) }
 {
-    change_blocks(
-        change,
-        memory,
-        ledger,
-        e,
-        e.cover_first(),
-        e.cover_blocks(),
-    );
+    change_blocks(change, memory, ledger, e, e.cover_first(), e.cover_blocks());
 }

@@ -2,7 +2,8 @@
 ghost use Rattle.std.specs.Prelude.{◌≡◌, ◌+◌, ◌*◌, ◌^◌, ◌≤◌, length};
 ghost use Rattle.words.specs.Bounded.{Small};
 ghost use Rattle.words.specs.Words.{word, put_word};
-ghost use Rattle.rules.specs.Store.{ledger_head_bytes, ledger_record_bytes, base_place, active_place, record_word, put_record_word};
+ghost use Rattle.rules.specs.Store.{ledger_head_bytes, ledger_record_bytes, base_place, active_place, record_word, record_words, put_record_word};
+ghost use Rattle.ledger.specs.Layout.{code_of, field_word};
 ghost use Rattle.ledger.specs.Needs.{record_of};
 
 use words::WORD_BYTES;
@@ -37,28 +38,46 @@ pub const KIND_BYTES: usize = 2;
 
 pub const KINDS_BYTES: usize = KIND_BYTES * KINDS as usize;
 
-// The words of a record, and which they are.
+// The words of a record.
 const RECORD_WORDS: usize = 5;
 
-pub const TYPE: usize = 0;
+// The words of a record, in their order (ledger 3, ledger 9).
+#[derive(Clone, Copy, PartialEq, Eq)]
+pub enum Field {
+    Type,
+    Writable,
+    Executable,
+    Linked,
+    Mark,
+}
 
-pub const WRITABLE: usize = 1;
-
-pub const EXECUTABLE: usize = 2;
-
-pub const LINKED: usize = 3;
-
-pub const MARK: usize = 4;
+impl Field {
+    // The field's word in a record.
+    fn place(self) -> usize
+        ensures { Small (field_word self) record_words result }
+    {
+        self as usize
+    }
+}
 
 // The mark of a block that is marked.
 pub const MARKED: u32 = 1;
 
-// The types.
-pub const TYPE_D: u32 = 0;
+// The types of blocks, by the numbers that stand for them in a ledger (ledger 4).
+#[derive(Clone, Copy, PartialEq, Eq)]
+pub enum BlockType {
+    Data,
+    L1,
+    L2,
+}
 
-pub const TYPE_L1: u32 = 1;
-
-pub const TYPE_L2: u32 = 2;
+impl BlockType {
+    pub fn code(self) -> u32
+        ensures { result ≡ code_of self }
+    {
+        self as u32
+    }
+}
 
 pub const NO_TABLE: u32 = 0xFFFF_FFFF;
 
@@ -100,24 +119,24 @@ pub fn record_of(ledger: &[u8], block: u32) -> usize
     (block - base(ledger)) as usize
 }
 
-// Word k of the record of block b, b counted from the region's first.
-pub fn record_word(ledger: &[u8], k: usize, b: usize) -> u32
-    requires { ledger_head_bytes + ledger_record_bytes * b + 4 * k + 4 ≤ length ledger.now }
-    ensures { result ≡ record_word ledger.now k b }
+// A field of the record of block b, b counted from the region's first.
+pub fn record_word(ledger: &[u8], field: Field, b: usize) -> u32
+    requires { ledger_head_bytes + ledger_record_bytes * b + 4 * field_word field + 4 ≤ length ledger.now }
+    ensures { result ≡ record_word ledger.now (field_word field) b }
 {
     words::word(
         ledger,
-        LEDGER_HEAD_BYTES + LEDGER_RECORD_BYTES * b + WORD_BYTES * k,
+        LEDGER_HEAD_BYTES + LEDGER_RECORD_BYTES * b + WORD_BYTES * field.place(),
     )
 }
 
-pub fn put_record_word(ledger: &mut [u8], k: usize, b: usize, v: u32)
-    requires { ledger_head_bytes + ledger_record_bytes * b + 4 * k + 4 ≤ length ledger.old }
-    ensures { ledger.new ≡ put_record_word ledger.old k b v }
+pub fn put_record_word(ledger: &mut [u8], field: Field, b: usize, v: u32)
+    requires { ledger_head_bytes + ledger_record_bytes * b + 4 * field_word field + 4 ≤ length ledger.old }
+    ensures { ledger.new ≡ put_record_word ledger.old (field_word field) b v }
 {
     words::put_word(
         ledger,
-        LEDGER_HEAD_BYTES + LEDGER_RECORD_BYTES * b + WORD_BYTES * k,
+        LEDGER_HEAD_BYTES + LEDGER_RECORD_BYTES * b + WORD_BYTES * field.place(),
         v,
     );
 }

@@ -8,9 +8,11 @@ ghost use Rattle.rules.specs.Tables.{executed};
 ghost use Rattle.rules.specs.General.{hashed_blocks};
 ghost use Rattle.ledger.specs.Counters.{Spreads};
 ghost use Rattle.ledger.specs.Needs.{Fits, GrantsInside, InLedger};
+ghost use Rattle.ledger.specs.Regions.{store_of};
 
 use crate::counters::{Counter, grants};
-use crate::layout::{MARK, MARKED, put_record_word, record_of, record_word};
+use crate::layout::{Field, MARKED, put_record_word, record_of, record_word};
+use crate::region::Region;
 use entries::entry::Entry;
 
 const NO_MARK: u32 = 0;
@@ -19,21 +21,21 @@ pub fn is_marked(ledger: &[u8], b: usize) -> bool
     requires { InLedger ledger.now (b + 1) }
     ensures { result ≡ eqb (record_word ledger.now mark_word b) mark_value }
 {
-    record_word(ledger, MARK, b) == MARKED
+    record_word(ledger, Field::Mark, b) == MARKED
 }
 
 pub fn mark(ledger: &mut [u8], b: usize)
     requires { InLedger ledger.old (b + 1) }
     ensures { ledger.new ≡ put_record_word ledger.old mark_word b mark_value }
 {
-    put_record_word(ledger, MARK, b, MARKED);
+    put_record_word(ledger, Field::Mark, b, MARKED);
 }
 
 pub fn clear_mark(ledger: &mut [u8], b: usize)
     requires { InLedger ledger.old (b + 1) }
     ensures { ledger.new ≡ clear_mark ledger.old b }
 {
-    put_record_word(ledger, MARK, b, NO_MARK);
+    put_record_word(ledger, Field::Mark, b, NO_MARK);
 }
 
 // Clears the marks of the m blocks from b on.
@@ -90,14 +92,16 @@ pub fn mark_executed(memory: &[u8], ledger: &mut [u8], e: Entry, p: u32, m: u32)
     }
 }
 
-// How many of them are not marked yet: those that had to be hashed (calls 8).
-pub fn hashed_blocks(memory: &[u8], ledger: &[u8], e: Entry, p: u32, m: u32) -> u32
-    requires { Fits memory.now ledger.now × GrantsInside memory.now ledger.now (meaning e) p m }
-    ensures { (n : ℕ) (x : ℕ → specified.Entry) → Spreads n x (meaning e) p m → result ≡ hashed_blocks (lent memory.now ledger.now) n x }
-{
-    if !grants(Counter::Executable, e) {
-        return 0;
+impl Region<'_> {
+    // How many of the m blocks from p on are not marked yet, if the entry lets them execute: those that had to be hashed (calls 8).
+    pub fn hashed_blocks(&self, e: Entry, p: u32, m: u32) -> u32
+        requires { GrantsInside self.now.memory.now self.now.ledger.now (meaning e) p m }
+        ensures { (n : ℕ) (x : ℕ → specified.Entry) → Spreads n x (meaning e) p m → result ≡ hashed_blocks (store_of self.now) n x }
+    {
+        if !grants(Counter::Executable, e) {
+            return 0;
+        }
+        let b = self.record_of(p);
+        count_unmarked(self.ledger, b, m as usize)
     }
-    let b = record_of(ledger, p);
-    count_unmarked(ledger, b, m as usize)
 }

@@ -2,35 +2,38 @@
 ghost use Rattle.std.specs.Prelude.{◌≡◌, ◌+◌, ◌-◌, ◌*◌, ◌≤◌, ◌<◌, length};
 ghost use Rattle.words.specs.Bounded.{above, any, neqb};
 ghost use Rattle.rules.specs.Signature.{signed_block, unknown};
-ghost use Rattle.rules.specs.Store.{block_bytes, lent, record_word, record_words, some_block};
-ghost use Rattle.ledger.specs.Needs.{BlocksInside, Fits, InLedger};
+ghost use Rattle.rules.specs.Store.{block_bytes, record_word, some_block};
+ghost use Rattle.ledger.specs.Layout.{field_word};
+ghost use Rattle.ledger.specs.Needs.{BlocksInside, InLedger};
+ghost use Rattle.ledger.specs.Regions.{store_of};
 
-use crate::layout::{BLOCK_BYTES, MARK, MARKED, base, record_of, record_word};
+use crate::layout::{BLOCK_BYTES, Field, MARKED, record_word};
 use crate::marks::is_marked;
+use crate::region::Region;
 use signature::golden::is_signed_at;
 
-// Word k differs from v in some of the m records from block b on. Most often it is one record, which is looked at without the loop.
-pub fn some_differs(ledger: &[u8], k: usize, b: usize, m: usize, v: u32) -> bool
-    requires { (k < record_words) × InLedger ledger.now (b + m) }
-    ensures { result ≡ any m (λ i. neqb (record_word ledger.now k (b + i)) v) }
+// The field differs from v in some of the m records from block b on. Most often it is one record, which is looked at without the loop.
+pub fn some_differs(ledger: &[u8], field: Field, b: usize, m: usize, v: u32) -> bool
+    requires { InLedger ledger.now (b + m) }
+    ensures { result ≡ any m (λ i. neqb (record_word ledger.now (field_word field) (b + i)) v) }
 {
     if m == 1 {
-        return record_word(ledger, k, b) != v;
+        return record_word(ledger, field, b) != v;
     }
     for i in 0..m {
-        if record_word(ledger, k, b + i) != v {
+        if record_word(ledger, field, b + i) != v {
             return true;
         }
     }
     false
 }
 
-// Word k is above 0 in some of the m records from block b on.
-pub fn some_above_zero(ledger: &[u8], k: usize, b: usize, m: usize) -> bool
-    requires { (k < record_words) × InLedger ledger.now (b + m) }
-    ensures { result ≡ any m (λ i. above (record_word ledger.now k (b + i)) 0) }
+// The field is above 0 in some of the m records from block b on.
+pub fn some_above_zero(ledger: &[u8], field: Field, b: usize, m: usize) -> bool
+    requires { InLedger ledger.now (b + m) }
+    ensures { result ≡ any m (λ i. above (record_word ledger.now (field_word field) (b + i)) 0) }
 {
-    some_differs(ledger, k, b, m, 0)
+    some_differs(ledger, field, b, m, 0)
 }
 
 // Block p is signed, in a memory that begins at block first.
@@ -42,30 +45,32 @@ pub fn is_signed_block(memory: &[u8], golden: &[u8], first: u32, p: u32) -> bool
     is_signed_at(memory, BLOCK_BYTES * b as usize, golden, p)
 }
 
-// Block p of the region is neither marked nor signed. A marked block is not hashed.
-fn is_unknown(memory: &[u8], ledger: &[u8], golden: &[u8], p: u32) -> bool
-    requires { Fits memory.now ledger.now × BlocksInside memory.now ledger.now p 1 }
-    ensures { result ≡ unknown golden.now (lent memory.now ledger.now) p }
-{
-    if is_marked(ledger, record_of(ledger, p)) {
-        return false;
-    }
-    !is_signed_block(memory, golden, base(ledger), p)
-}
-
-// Some of the m blocks from p on is. Where all are marked, nothing but their marks is looked at.
-pub fn some_unknown(memory: &[u8], ledger: &[u8], golden: &[u8], p: u32, m: u32) -> bool
-    requires { Fits memory.now ledger.now × BlocksInside memory.now ledger.now p m }
-    ensures { result ≡ some_block p m (unknown golden.now (lent memory.now ledger.now)) }
-{
-    let b = record_of(ledger, p);
-    if !some_differs(ledger, MARK, b, m as usize, MARKED) {
-        return false;
-    }
-    for i in 0..m {
-        if is_unknown(memory, ledger, golden, p + i) {
-            return true;
+impl Region<'_> {
+    // Block p of the region is neither marked nor signed. A marked block is not hashed.
+    fn is_unknown(&self, golden: &[u8], p: u32) -> bool
+        requires { BlocksInside self.now.memory.now self.now.ledger.now p 1 }
+        ensures { result ≡ unknown golden.now (store_of self.now) p }
+    {
+        if is_marked(self.ledger, self.record_of(p)) {
+            return false;
         }
+        !is_signed_block(self.memory, golden, self.base(), p)
     }
-    false
+
+    // Some of the m blocks from p on is. Where all are marked, nothing but their marks is looked at.
+    pub fn some_unknown(&self, golden: &[u8], p: u32, m: u32) -> bool
+        requires { BlocksInside self.now.memory.now self.now.ledger.now p m }
+        ensures { result ≡ some_block p m (unknown golden.now (store_of self.now)) }
+    {
+        let b = self.record_of(p);
+        if !some_differs(self.ledger, Field::Mark, b, m as usize, MARKED) {
+            return false;
+        }
+        for i in 0..m {
+            if self.is_unknown(golden, p + i) {
+                return true;
+            }
+        }
+        false
+    }
 }

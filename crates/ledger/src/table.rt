@@ -3,14 +3,16 @@ ghost use Rattle.std.specs.Prelude.{◌≡◌, ◌<◌, ◌≤◌};
 ghost use Rattle.entries.specs.Meaning.{level_of};
 ghost use Rattle.rules.specs.General.{other_type};
 ghost use Rattle.rules.specs.Refusals.{answer_of};
-ghost use Rattle.rules.specs.Store.{lent};
 ghost use Rattle.rules.specs.Tables.{table_blocks, table_entries, type_code};
-ghost use Rattle.ledger.specs.Needs.{Fits, TableInside};
+ghost use Rattle.ledger.specs.Layout.{code_of};
+ghost use Rattle.ledger.specs.Needs.{TableInside};
 ghost use Rattle.ledger.specs.Pieces.{place_refusals, table_refusals};
+ghost use Rattle.ledger.specs.Refusals.{answered};
+ghost use Rattle.ledger.specs.Regions.{store_of};
 
-use crate::layout::{BLOCK_WORDS, TYPE, TYPE_L1, TYPE_L2, base, record_of};
-use crate::refusals::{ACCEPTED, MISALIGNED, OUTSIDE_REGION, WRONG_TYPE};
-use crate::region::{blocks, is_outside};
+use crate::layout::{BLOCK_WORDS, BlockType, Field};
+use crate::refusals::Refusal;
+use crate::region::Region;
 use crate::scan::some_differs;
 use entries::entry::Level;
 
@@ -34,51 +36,53 @@ pub fn table_entries(level: Level) -> u32
     BLOCK_WORDS * table_blocks(level)
 }
 
-pub fn table_type(level: Level) -> u32
-    ensures { result ≡ type_code (level_of level) }
+pub fn table_type(level: Level) -> BlockType
+    ensures { code_of result ≡ type_code (level_of level) }
 {
     match level {
-        Level::L1 => TYPE_L1,
-        Level::L2 => TYPE_L2,
+        Level::L1 => BlockType::L1,
+        Level::L2 => BlockType::L2,
     }
 }
 
-// Refusals 2 and 3 of a table at a block.
-pub fn place_refusal(level: Level, memory: &[u8], ledger: &[u8], block: u32) -> u32
-    requires { Fits memory.now ledger.now }
-    ensures { result ≡ answer_of (place_refusals (level_of level) (lent memory.now ledger.now) block) }
-{
-    let m = table_blocks(level);
-    if is_outside(base(ledger), blocks(memory), block, m) {
-        return OUTSIDE_REGION;
+impl Region<'_> {
+    // Refusals 2 and 3 of a table at a block.
+    pub fn check_place(&self, level: Level, block: u32) -> Result<(), Refusal>
+        ensures { answered result ≡ answer_of (place_refusals (level_of level) (store_of self.now) block) }
+    {
+        let m = table_blocks(level);
+        if self.is_outside(block, m) {
+            return Err(Refusal::OutsideRegion);
+        }
+        if block % m != 0 {
+            return Err(Refusal::Misaligned);
+        }
+        Ok(())
     }
-    if block % m != 0 {
-        return MISALIGNED;
-    }
-    ACCEPTED
-}
 
-// Some block of the table has another type than t.
-pub fn is_other_type(level: Level, memory: &[u8], ledger: &[u8], block: u32, t: u32) -> bool
-    requires fits { Fits memory.now ledger.now }
-    requires table_inside { TableInside (level_of level) memory.now ledger.now block }
-    ensures { result ≡ other_type (level_of level) (lent memory.now ledger.now) block t }
-{
-    let b = record_of(ledger, block);
-    some_differs(ledger, TYPE, b, table_blocks(level) as usize, t)
-}
+    // Some block of the table has another type than t.
+    pub fn is_other_type(&self, level: Level, block: u32, t: BlockType) -> bool
+        requires { TableInside (level_of level) self.now.memory.now self.now.ledger.now block }
+        ensures { result ≡ other_type (level_of level) (store_of self.now) block (code_of t) }
+    {
+        let b = self.record_of(block);
+        some_differs(
+            self.ledger,
+            Field::Type,
+            b,
+            table_blocks(level) as usize,
+            t.code(),
+        )
+    }
 
-// Refusals 2, 3 and 5: where the table lies, and whether its blocks have type t.
-pub fn table_refusal(level: Level, memory: &[u8], ledger: &[u8], block: u32, t: u32) -> u32
-    requires { Fits memory.now ledger.now }
-    ensures { result ≡ answer_of (table_refusals (level_of level) (lent memory.now ledger.now) block t) }
-{
-    let place = place_refusal(level, memory, ledger, block);
-    if place != ACCEPTED {
-        return place;
+    // Refusals 2, 3 and 5: where the table lies, and whether its blocks have type t.
+    pub fn check_table(&self, level: Level, block: u32, t: BlockType) -> Result<(), Refusal>
+        ensures { answered result ≡ answer_of (table_refusals (level_of level) (store_of self.now) block (code_of t)) }
+    {
+        self.check_place(level, block)?;
+        if self.is_other_type(level, block, t) {
+            return Err(Refusal::WrongType);
+        }
+        Ok(())
     }
-    if is_other_type(level, memory, ledger, block, t) {
-        return WRONG_TYPE;
-    }
-    ACCEPTED
 }

@@ -19,7 +19,7 @@ record_of-b-requires c = let (lo, hi) = c.requires _ (told c.grants.ensures c.if
 pub some_beyond-requires : goal.some_beyond-requires
 some_beyond-requires c = let (lo, hi) = c.requires _ (told c.grants.ensures c.if-not-grants.false) in
     let b = c.record_of-b.ensures in
-    (c.counter_word.ensures.below, omega arith)
+    omega arith
 
 pub returns : goal.returns
 unfolding counter_beyond
@@ -27,5 +27,5 @@ returns c =
     let a = c.args in
     let g = told c.grants.ensures c.if-not-grants.false in
     rw g
-    ((rw (c.counter_word.ensures.is, c.record_of-b.ensures.is) at c.some_beyond.ensures)
+    ((rw (c.field.ensures, c.record_of-b.ensures.is) at c.some_beyond.ensures)
     ∙ some_block_records _ _ _ (λ (x : ℕ). beyond a.least a.most (record_word a.ledger.now (counter_word (counter_of a.counter)) x)) (c.requires _ g).0)

@@ -11,12 +11,11 @@ pub change_words-requires : goal.change_words-requires
 change_words-requires c = let granted = told c.grants.ensures c.if-grants.true in
     let (lo, hi) = c.requires.0 _ granted in
     let b = c.record_of-b.ensures in
-    let k = c.counter_word.ensures in
-    (k.below, omega arith, λ i l. rw (k.is, b.is) (c.requires.1 granted i l))
+    (omega arith, λ i l. rw (c.field.ensures, b.is) (c.requires.1 granted i l))
 
 pub returns-then-grants : goal.returns-then-grants
 unfolding changed_counter
-returns-then-grants c = rw (told c.grants.ensures c.if-grants.true) (rw (c.counter_word.ensures.is, c.record_of-b.ensures.is) at c.change_words.ensures)
+returns-then-grants c = rw (told c.grants.ensures c.if-grants.true) (rw (c.field.ensures, c.record_of-b.ensures.is) at c.change_words.ensures)
 
 pub returns-else-grants : goal.returns-else-grants
 unfolding changed_counter

@@ -2,11 +2,11 @@
 use Prim.Native.Nat.{◌+◌, ◌-◌}
 use Rattle.words.proofs.Bounded.{Scanned}
 use Rattle.rules.specs.Signature.{unknown}
-use Rattle.rules.specs.Store.{lent}
-use Rattle.ledger.proofs.scan.some_unknown.Given as goal
+use Rattle.ledger.specs.Regions.{store_of}
+use Rattle.ledger.proofs.region.Region.some_unknown.Given as goal
 
 abbrev pub invariant-loop-i : goal.invariant-loop-i
-invariant-loop-i l = Scanned (λ k. unknown l.golden (lent l.memory l.ledger) (l.p + k)) l.m l.i
+invariant-loop-i l = Scanned (λ k. unknown l.golden (store_of l.self) (l.p + k)) l.m l.i
 
 abbrev pub decreases-loop-i : goal.decreases-loop-i
 decreases-loop-i l = l.m - l.i

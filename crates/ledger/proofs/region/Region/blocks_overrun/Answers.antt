@@ -1,0 +1,10 @@
+-- Some counter of the region overruns exactly if one that the entry grants is beyond the bounds of a change, on one of these blocks.
+use Rattle.ledger.proofs.Counting.{recorded_inside, overruns-any}
+use Rattle.ledger.proofs.region.Region.blocks_overrun.Goals as goal
+
+pub blocks_beyond-requires : goal.blocks_beyond-requires
+blocks_beyond-requires c = recorded_inside _ _ _ _ c.args.self.now.fits c.requires
+
+pub returns : goal.returns
+returns c =
+    overruns-any _ _ _ _ _ c.args.self.now.fits c.requires (rw (c.least_before.ensures, c.most_before.ensures) at c.blocks_beyond.ensures)
