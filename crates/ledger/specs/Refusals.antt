@@ -27,3 +27,8 @@ number_of BrokenWalk = 24
 abbrev pub answered : {A : Type 0} → Result A refusals.Refusal → ℕ
 answered (Ok x) = 0
 answered (Err r) = number_of r
+
+-- calls 5, calls 8: the byte or the number that a call gives: with a refusal it is 0
+abbrev pub given : Result ℕ refusals.Refusal → ℕ
+given (Ok n) = n
+given (Err r) = 0
