@@ -1,2 +1,2 @@
+pub mod Accesses
 pub mod Walking
-pub mod Verdicts

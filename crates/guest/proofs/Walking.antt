@@ -13,7 +13,6 @@ use Rattle.rules.specs.Store.{block_bytes, block_words}
 use Rattle.rules.specs.Tables.{astray}
 use Rattle.rules.specs.Guest.{Walk, stops, ends, passes, ends_at, second_entry, follow, walk}
 use Rattle.rules.proofs.Walk.{place_above, cover_within}
-use Rattle.guest.specs.Needs.{stops_or, NumberAt, EndsFrom}
 
 -- the entry covers blocks, all of them among the n from B on
 pub record Inside (B n : ℕ) (e : Entry) : Type 0 where
@@ -33,26 +32,17 @@ passes_cases P v B n e onward broken none on = go (is_unaccepted e) (astray B n 
   go false false false p q r =
       let z = place_above e p r in let (low, high) = cover_within B n e z q in on (record { sized = cover_some e z; low = low; high = high })
 
--- The number at an entry
+-- An entry at which a walk goes on
 
-pub stops_or_stops : (v : Level) (k : ℕ) (onward : Walk) → k ≢ 0 → stops_or v k onward ≡ stops v k
-unfolding stops_or
-stops_or_stops v zero onward h = absurd (h refl)
-stops_or_stops v (suc k) onward h = refl
-
-pub stops_or_onward : {k : ℕ} (v : Level) (onward : Walk) → k ≡ 0 → stops_or v k onward ≡ onward
-unfolding stops_or
-stops_or_onward v onward e = rw e
-
-pub goes_on_inside : {k : ℕ} (B n : ℕ) (e : Entry) → NumberAt B n e k → k ≡ 0 → Inside B n e
-goes_on_inside B n e d z = passes_cases (λ w. w ≡ stops l1 0 → Inside B n e) l1 B n e (stops l1 0) (other 24 (λ e. omega arith)) (other 22 (λ e. omega arith)) (λ i q. i) (d l1 (stops l1 0) ∙ stops_or_onward l1 (stops l1 0) z) where
-  other : (k : ℕ) → k ≢ 0 → stops l1 k ≡ stops l1 0 → Inside B n e
+pub goes_on_inside : (v : Level) (B n : ℕ) (e : Entry) → ((onward : Walk) → passes v B n e onward ≡ onward) → Inside B n e
+goes_on_inside v B n e on = passes_cases (λ w. w ≡ stops v 0 → Inside B n e) v B n e (stops v 0) (other 24 (λ e. omega arith)) (other 22 (λ e. omega arith)) (λ i q. i) (on (stops v 0)) where
+  other : (k : ℕ) → k ≢ 0 → stops v k ≡ stops v 0 → Inside B n e
   other k h q = absurd (h (cc))
 
 -- the L2 table of a link from which a walk goes on
-pub table_inside : {k : ℕ} (B n place : ℕ) → NumberAt B n (link place) k → k ≡ 0 → (block_tables * B ≤ place) × (place < block_tables * (B + n))
+pub table_inside : (B n place : ℕ) → ((onward : Walk) → passes l1 B n (link place) onward ≡ onward) → (block_tables * B ≤ place) × (place < block_tables * (B + n))
 unfolding cover_first place_first cover_blocks place_blocks
-table_inside B n place d z = let i = goes_on_inside B n (link place) d z in (omega arith, omega arith)
+table_inside B n place on = let i = goes_on_inside l1 B n (link place) on in (omega arith, omega arith)
 
 -- A walk's end
 
@@ -60,11 +50,6 @@ table_inside B n place d z = let i = goes_on_inside B n (link place) d z in (ome
 unfoldable pub InRegion : ℕ → ℕ → Walk → Type 0
 InRegion B n (stops v k) = 0 < k
 InRegion B n (ends v p r) = (B ≤ p) × (p < B + n)
-
-pub ends_from : (B n : ℕ) (w : Walk) → InRegion B n w → EndsFrom B w
-unfolding InRegion EndsFrom
-ends_from B n (stops v k) i = tt
-ends_from B n (ends v p r) i = i.0
 
 module _ (B n addr : ℕ) where
   at_entry : (v : Level) (e : Entry) (onward : Walk) → (Inside B n e → InRegion B n onward) → InRegion B n (passes v B n e onward)

@@ -1,111 +1,122 @@
 // A walk through the tables (guest walk, guest end).
-ghost use Rattle.std.specs.Prelude.{◌≡◌, ◌+◌, ◌≤◌};
-ghost use Rattle.entries.specs.Entries.{l1, link};
-ghost use Rattle.entries.specs.Meaning.{level_of, meaning};
-ghost use Rattle.rules.specs.Store.{physical_blocks};
-ghost use Rattle.rules.specs.Tables.{table_blocks};
-ghost use Rattle.rules.specs.Guest.{ends_at, follow, passes, walk};
-ghost use Rattle.guest.specs.Meaning.{walk_of};
-ghost use Rattle.guest.specs.Needs.{NumberAt, Region};
+ghost use Rattle.std.specs.Prelude.{◌≡◌, ◌+◌, ◌*◌, ◌/◌, ◌≤◌, length};
+ghost use Rattle.rules.specs.Store.{block_bytes, physical_blocks};
 
 use entries::decode::{l1_entry_at, l2_entry_at};
-use entries::entry;
 use entries::entry::{BLOCK_TABLES, Entry, Level};
 use ledger::layout::{BLOCK_BYTES, BLOCK_WORDS};
-use ledger::refusals::{ACCEPTED, BROKEN_WALK, FAULT_ENTRY};
-use ledger::region::is_astray;
+use ledger::refusals::Refusal;
+use ledger::region::{blocks, is_astray};
 
 const L2_WORDS: usize = 256;
 
-// At an entry of a level a walk stops with a number, or ends in a block with the entry's rights. The level stands last: with it first the compiler keeps
-// a walk in memory, not in registers.
+// What a walk asks of memory: that it is whole blocks, from a first one on, with numbers of physical blocks.
 #[derive(Clone, Copy)]
-pub enum Walk {
-    Stops {
-        number: u32,
-        level: Level,
-    },
-    Ends {
-        block: u32,
-        rights: u32,
-        level: Level,
-    },
+pub struct Blocks<'a> {
+    pub memory: &'a [u8],
+    pub first: u32,
+    ghost whole: { length memory.now ≡ block_bytes * (length memory.now / block_bytes) },
+    ghost physical: { first + length memory.now / block_bytes ≤ physical_blocks },
 }
 
-// The number with which a walk stops at an entry (guest 24, guest 22), or 0 where it goes on.
-fn stop_number(e: Entry, first: u32, n: usize) -> u32
-    requires { first + n ≤ physical_blocks }
-    ensures { NumberAt first n (meaning e) result }
-{
-    if e.is_unaccepted() {
-        return BROKEN_WALK;
-    }
-    if is_astray(e, first, n) {
-        return BROKEN_WALK;
-    }
-    if e.is_fault() {
-        return FAULT_ENTRY;
-    }
-    ACCEPTED
+// The block in which a walk ends, and the rights and the level of the entry there.
+#[derive(Clone, Copy)]
+pub struct End {
+    pub block: u32,
+    pub rights: u32,
+    pub level: Level,
 }
 
-// A walk at an entry that leads no further.
-fn ends_at(level: Level, e: Entry, first: u32, n: usize, address: u32) -> Walk
-    requires { first + n ≤ physical_blocks }
-    ensures { walk_of result ≡ passes (level_of level) first n (meaning e) (ends_at (level_of level) address (meaning e)) }
-{
-    let number = stop_number(e, first, n);
-    if number != ACCEPTED {
-        return Walk::Stops { number, level };
-    }
-    Walk::Ends {
-        block: e.cover_first() + address / (BLOCK_BYTES as u32) % e.cover_blocks(),
-        rights: e.rights(),
-        level,
-    }
+// Why an access stops at an entry of a level.
+#[derive(Clone, Copy)]
+pub struct Stop {
+    pub refusal: Refusal,
+    pub level: Level,
 }
 
-// A walk at a link of an L1 table, by the number of the L2 table to which it leads.
-fn through_link(place: u32, memory: &[u8], first: u32, n: usize, address: u32) -> Walk
-    requires { Region memory.now first n }
-    ensures { walk_of result ≡ passes l1 first n (link place) (follow first n memory.now address (link place)) }
-{
-    let number = stop_number(Entry::Link(place), first, n);
-    if number != ACCEPTED {
-        return Walk::Stops {
-            number,
-            level: Level::L1,
-        };
-    }
-    let table = (place - BLOCK_TABLES * first) as usize;
-    let e = l2_entry_at(
-        memory,
-        L2_WORDS * table + words::bits(address, 12, 8) as usize,
-    );
-    ends_at(Level::L2, e, first, n, address)
-}
+impl Blocks<'_> {
+    ghost use Rattle.entries.specs.Entries as specified;
+    ghost use Rattle.entries.specs.Entries.{l1};
+    ghost use Rattle.entries.specs.Meaning.{level_of, meaning};
+    ghost use Rattle.rules.specs.Guest as guest;
+    ghost use Rattle.rules.specs.Guest.{follow, passes};
+    ghost use Rattle.rules.specs.Tables.{table_blocks};
+    ghost use Rattle.guest.specs.Meaning.{count_of, followed, walk_in, walk_of};
 
-// A walk at an entry of an L1 table.
-fn from_l1(e: Entry, memory: &[u8], first: u32, n: usize, address: u32) -> Walk
-    requires { Region memory.now first n }
-    ensures { walk_of result ≡ passes l1 first n (meaning e) (follow first n memory.now address (meaning e)) }
-{
-    match e {
-        Entry::Link(place) => through_link(place, memory, first, n, address),
-        _ => ends_at(Level::L1, e, first, n, address),
+    // How many they are.
+    fn count(&self) -> usize
+        ensures { result ≡ count_of self.now }
+    {
+        blocks(self.memory)
     }
-}
 
-// The walk from the L1 table at a block of the n blocks of memory from first on.
-pub fn walk_tables(memory: &[u8], first: u32, n: usize, table: u32, address: u32) -> Walk
-    requires region { Region memory.now first n }
-    requires first_le_table { (first ≤ table) × (table + table_blocks l1 ≤ first + n) }
-    ensures { walk_of result ≡ walk first n memory.now table address }
-{
-    let b = (table - first) as usize;
-    let e = l1_entry_at(
-        memory,
-        BLOCK_WORDS as usize * b + words::bits(address, 20, 12) as usize,
-    );
-    from_l1(e, memory, first, n, address)
+    // Whether a walk stops at an entry (guest 24, guest 22).
+    #[tactic(auto, unfolding(rules::specs::Guest::passes))]
+    fn check_entry(&self, level: Level, e: Entry) -> Result<(), Stop>
+        ensures { (onward : guest.Walk) → passes (level_of level) self.now.first (count_of self.now) (meaning e) onward ≡ followed result onward }
+    {
+        if e.is_unaccepted() || is_astray(e, self.first, self.count()) {
+            return Err(Stop {
+                refusal: Refusal::BrokenWalk,
+                level,
+            });
+        }
+        if e.is_fault() {
+            return Err(Stop {
+                refusal: Refusal::FaultEntry,
+                level,
+            });
+        }
+        Ok(())
+    }
+
+    // A walk at an entry that leads no further.
+    fn end_at(&self, level: Level, e: Entry, address: u32) -> Result<End, Stop>
+        ensures { walk_of result ≡ passes (level_of level) self.now.first (count_of self.now) (meaning e) (guest.ends_at (level_of level) address (meaning e)) }
+    {
+        self.check_entry(level, e)?;
+        Ok(End {
+            block: e.cover_first() + address / (BLOCK_BYTES as u32) % e.cover_blocks(),
+            rights: e.rights(),
+            level,
+        })
+    }
+
+    // A walk at a link of an L1 table, by the number of the L2 table to which it leads.
+    fn through_link(&self, place: u32, address: u32) -> Result<End, Stop>
+        ensures { walk_of result ≡ passes l1 self.now.first (count_of self.now) (specified.link place) (follow self.now.first (count_of self.now) self.now.memory.now address (specified.link place)) }
+    {
+        self.check_entry(Level::L1, Entry::Link(place))?;
+        let table = (place - BLOCK_TABLES * self.first) as usize;
+        let e = l2_entry_at(
+            self.memory,
+            L2_WORDS * table + words::bits(address, 12, 8) as usize,
+        );
+        self.end_at(Level::L2, e, address)
+    }
+
+    // A walk at an entry of an L1 table.
+    #[tactic(auto, unfolding(rules::specs::Guest::follow))]
+    fn from_l1(&self, e: Entry, address: u32) -> Result<End, Stop>
+        ensures { walk_of result ≡ passes l1 self.now.first (count_of self.now) (meaning e) (follow self.now.first (count_of self.now) self.now.memory.now address (meaning e)) }
+    {
+        match e {
+            Entry::Link(place) => self.through_link(place, address),
+            _ => self.end_at(Level::L1, e, address),
+        }
+    }
+
+    // The walk from the L1 table at a block.
+    #[tactic(auto, unfolding(rules::specs::Guest::walk))]
+    pub fn walk(&self, table: u32, address: u32) -> Result<End, Stop>
+        requires { (self.now.first ≤ table) × (table + table_blocks l1 ≤ self.now.first + count_of self.now) }
+        ensures { walk_of result ≡ walk_in self.now table address }
+    {
+        let b = (table - self.first) as usize;
+        let e = l1_entry_at(
+            self.memory,
+            BLOCK_WORDS as usize * b + words::bits(address, 20, 12) as usize,
+        );
+        self.from_l1(e, address)
+    }
 }

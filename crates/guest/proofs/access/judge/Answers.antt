@@ -1,38 +1,71 @@
 -- The tests are those of the rules, in their order, on the words that the ledger holds.
+use mathlib.Core.List.{List}
+use mathlib.Core.Path.{◌≡◌, refl, ◌∙◌, ap}
+use Prim.Native.Nat.{ℕ}
 use native.Mathlib.Omega.{arith}
-use Rattle.words.proofs.Bounded.{told}
+use Rattle.std.proofs.lemmas.Result.{err_from_is_err_and}
+use Rattle.rules.specs.Store.{Store, lent}
+use Rattle.rules.specs.Guest.{registers_after}
 use Rattle.rules.proofs.State.{fits_stored}
-use Rattle.guest.proofs.Walking.{ends_from, walk_in_region}
-use Rattle.guest.proofs.Verdicts.{walkable, judged_1, judged_21, judged-walk}
+use Rattle.ledger.proofs.Judge.{refuses}
+use Rattle.guest.specs.Meaning.{access_of}
+use Rattle.guest.proofs.Accesses.{byte_lies, table_within, said_1_registers, said_1, said_21, said_walk}
 use Rattle.guest.proofs.access.judge.Goals as goal
 
-pub returns-then-is_misfit_stored : goal.returns-then-is_misfit_stored
-returns-then-is_misfit_stored c = judged_1 _ _ _ (told c.is_misfit_stored.ensures c.if-is_misfit_stored.true)
+parts : {s : Store} {memory ledger : List ℕ} → s ≡ lent memory ledger → (s.memory ≡ memory) × (s.ledger ≡ ledger)
+parts e = (ap (λ (s : Store). s.memory) e, ap (λ (s : Store). s.ledger) e)
 
-pub base-first-requires : goal.base-first-requires
-base-first-requires c = let f = fits_stored _ (told c.is_misfit_stored.ensures c.if-is_misfit_stored.false) in omega arith
+pub returns-in_default : goal.returns-in_default
+returns-in_default c =
+    let a = c.args in
+    let (answer, left) = said_1_registers (access_of a.access) (lent a.memory.now a.ledger.now) a.registers.now a.address c.in_default.ensures.cases in
+    record { value = answer; registers_after = left; place = tt; in_memory = tt; recorded = tt }
 
-pub active-table-requires : goal.active-table-requires
-active-table-requires c = let f = fits_stored _ (told c.is_misfit_stored.ensures c.if-is_misfit_stored.false) in omega arith
+pub returns-in_err-region : goal.returns-in_err-region
+returns-in_err-region c =
+    let a = c.args in
+    let p = err_from_is_err_and c.from_residual.result c.from_residual.ensures.1 in
+    let (answer, left) = said_1 (access_of a.access) (lent a.memory.now a.ledger.now) a.registers.now a.address c.in_err-region.ensures.value (refuses _) in
+    rw (p.1, p.2, c.in-Some.ensures.cases.same) (record { value = answer; registers_after = left; place = tt; in_memory = tt; recorded = tt })
 
-pub is_no_table-requires : goal.is_no_table-requires
-is_no_table-requires c = let f = fits_stored _ (told c.is_misfit_stored.ensures c.if-is_misfit_stored.false) in omega arith
+pub returns-in_err-table : goal.returns-in_err-table
+returns-in_err-table c =
+    let a = c.args in
+    let (m, l) = parts c.in_ok-region.ensures.region in
+    let p = err_from_is_err_and c.from_residual-in_err-table.result c.from_residual-in_err-table.ensures.1 in
+    let (answer, left) = said_21 (access_of a.access) (lent a.memory.now a.ledger.now) a.registers.now a.address (rw (m, l) at c.in_ok-region.region.fits) c.in-Some.ensures.cases.long (rw (m, l) at c.in_err-table.ensures.value) (refuses _) in
+    rw (p.1, p.2, c.in-Some.ensures.cases.same) (record { value = answer; registers_after = left; place = tt; in_memory = tt; recorded = tt })
 
-pub returns-then-is_no_table : goal.returns-then-is_no_table
-returns-then-is_no_table c =
-    judged_21 _ c.base-first.ensures c.blocks-n.ensures c.active-table.ensures (told c.is_misfit_stored.ensures c.if-is_misfit_stored.false) _ _
-    (told c.is_no_table.ensures c.if-is_no_table.true)
+pub invariant_of-blocks : goal.invariant_of-blocks
+invariant_of-blocks c =
+    let a = c.args in
+    let (m, l) = parts c.in_ok-region.ensures.region in
+    let f = fits_stored (lent a.memory.now a.ledger.now) (rw (m, l) at c.in_ok-region.region.fits) in
+    let b = rw l at c.base.ensures in
+    record { whole = omega arith; physical = omega arith }
 
-pub walk_tables-requires : goal.walk_tables-requires
-walk_tables-requires c =
-    let (region, from) = walkable _ c.base-first.ensures c.blocks-n.ensures c.active-table.ensures (told c.is_misfit_stored.ensures c.if-is_misfit_stored.false)
-    (told c.is_no_table.ensures c.if-is_no_table.false) in
-    record { region = region; first_le_table = from }
+pub locate-requires : goal.locate-requires
+locate-requires c =
+    let (m, l) = parts c.in_ok-region.ensures.region in
+    rw (c.base.ensures, c.in_ok-table.ensures.table, l) (table_within _ (rw (m, l) at c.in_ok-table.ensures.value))
 
-pub arrive-requires : goal.arrive-requires
-arrive-requires c = rw c.walk_tables.ensures (ends_from _ _ _ (walk_in_region _ _ _ _ _))
+pub returns-in-Ok : goal.returns-in-Ok
+unfolding registers_after
+returns-in-Ok c =
+    let a = c.args in
+    let (m, l) = parts c.in_ok-region.ensures.region in
+    let fits = rw (m, l) at c.in_ok-region.region.fits in
+    let number = rw (c.base.ensures, c.in_ok-table.ensures.table, l) at c.in-Ok.ensures.value in
+    let place = rw (c.base.ensures, c.in_ok-table.ensures.table, l) at c.in-Ok.ensures.place in
+    let (answer, left) = said_walk (access_of a.access) (lent a.memory.now a.ledger.now) a.registers.now a.address fits c.in-Some.ensures.cases.long (rw (m, l) at c.in_ok-table.ensures.value) number in
+    let (inside, has) = byte_lies (access_of a.access) (lent a.memory.now a.ledger.now) a.address fits number in
+    record { value = answer; registers_after = c.in-Some.ensures.cases.same ∙ left; place = place; in_memory = rw place inside; recorded = rw place has }
 
-pub returns : goal.returns
-returns c =
-    judged-walk _ c.base-first.ensures c.blocks-n.ensures c.active-table.ensures (told c.is_misfit_stored.ensures c.if-is_misfit_stored.false) _ _
-    (told c.is_no_table.ensures c.if-is_no_table.false) c.walk_tables.ensures c.arrive.ensures
+pub returns-in-Err : goal.returns-in-Err
+returns-in-Err c =
+    let a = c.args in
+    let (m, l) = parts c.in_ok-region.ensures.region in
+    let number = rw (c.base.ensures, c.in_ok-table.ensures.table, l) at c.in-Err.ensures.value in
+    let level = rw (c.base.ensures, c.in_ok-table.ensures.table, l) at c.in-Err.ensures.level in
+    let (answer, left) = said_walk (access_of a.access) (lent a.memory.now a.ledger.now) a.registers.now a.address (rw (m, l) at c.in_ok-region.region.fits) c.in-Some.ensures.cases.long (rw (m, l) at c.in_ok-table.ensures.value) number in
+    record { value = answer; registers_after = (rw (level, c.in-Some.ensures.cases.same) at c.tell.ensures) ∙ left; place = tt; in_memory = tt; recorded = tt }
