@@ -63,6 +63,7 @@ impl Access {
 }
 
 // The block of the table in use, if an L1 table can lie there (guest 21).
+#[tactic(auto, using(words::proofs::Bounded::differ, words::proofs::Bounded::same), unfolding(rules::specs::Refusals::answer_of))]
 fn active_table(region: &Region<'_>) -> Result<u32, Refusal>
     ensures value { answered result ≡ answer_of (21 if no_active_table (store_of region.now) ∷ []) }
     ensures table { IfOk result (λ t. t ≡ active (store_of region.now)) }
@@ -75,6 +76,7 @@ fn active_table(region: &Region<'_>) -> Result<u32, Refusal>
 }
 
 // Where in memory the byte of an access lies (guest end), unless its walk stops or ends without the right (guest 23).
+#[tactic(auto, unfolding(rules::specs::Refusals::answer_of, rules::specs::Guest::walk_refusals, rules::specs::Guest::walk_level, rules::specs::Guest::byte_index))]
 fn locate(blocks: &Blocks<'_>, table: u32, access: Access, address: u32) -> Result<usize, Stop>
     requires { (blocks.now.first ≤ table) × (table + table_blocks l1 ≤ blocks.now.first + count_of blocks.now) }
     ensures value { stopped result ≡ answer_of (walk_refusals (access_of access) (walk_in blocks.now table address)) }
@@ -142,6 +144,7 @@ fn judge(
 }
 
 // The byte of a read or a fetch (guest byte).
+#[tactic(auto, using(crate::proofs::Accesses::loaded, crate::proofs::Accesses::outcome_refused, crate::proofs::Accesses::outcome_accepted, ledger::proofs::Judge::refuses), unfolding(rules::specs::Guest::written, rules::specs::Guest::unmarked))]
 fn load(
     memory: &[u8],
     ledger: &[u8],
@@ -188,6 +191,7 @@ pub fn fetch(
 }
 
 // Stores the low 8 bits of the byte and clears the mark of its block (guest leaves).
+#[tactic(auto, using(crate::proofs::Accesses::loaded, crate::proofs::Accesses::outcome_refused, crate::proofs::Accesses::outcome_accepted, ledger::proofs::Judge::refuses), unfolding(rules::specs::Guest::written, rules::specs::Guest::unmarked))]
 pub fn write(
     memory: &mut [u8],
     ledger: &mut [u8],

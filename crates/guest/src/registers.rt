@@ -71,6 +71,7 @@ pub fn status_word(code: u32, write: bool) -> u32
 }
 
 // Stores a fault: its status, its address, and that it is pending (registers 6).
+#[tactic(auto, unfolding(rules::specs::Registers::put_fault))]
 pub fn put_fault(registers: &mut [u8; REGISTERS_BYTES], abort: Abort, status: u32, address: u32)
     ensures { registers.new ≡ put_fault registers.old (abort_of abort) status address }
 {
@@ -81,6 +82,7 @@ pub fn put_fault(registers: &mut [u8; REGISTERS_BYTES], abort: Abort, status: u3
 }
 
 // Whether a fault was pending, which it no longer is (acknowledge byte, acknowledge leaves).
+#[tactic(auto, using(words::proofs::Bounded::differ, words::proofs::Bounded::same), unfolding(rules::specs::Registers::acknowledge_outcome, rules::specs::Registers::acknowledge_registers, rules::specs::Outcomes::settle, rules::specs::Refusals::answer_of))]
 pub fn acknowledge(registers: &mut [u8]) -> Result<u8, Refusal>
     ensures value { (s : Store) → answered result ≡ (acknowledge_outcome s registers.old).answer }
     ensures pending { (s : Store) → given result ≡ (acknowledge_outcome s registers.old).byte }

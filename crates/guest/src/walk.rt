@@ -83,6 +83,7 @@ impl Blocks<'_> {
     }
 
     // A walk at a link of an L1 table, by the number of the L2 table to which it leads.
+    #[tactic(auto, unfolding(rules::specs::Guest::follow))]
     fn through_link(&self, place: u32, address: u32) -> Result<End, Stop>
         ensures { walk_of result ≡ passes l1 self.now.first (count_of self.now) (specified.link place) (follow self.now.first (count_of self.now) self.now.memory.now address (specified.link place)) }
     {

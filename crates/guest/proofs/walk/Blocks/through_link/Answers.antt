@@ -11,6 +11,3 @@ overflow_sub-table c = let i = table_inside _ _ _ c.in_ok-check_entry.ensures in
 pub l2_entry_at-e-requires : goal.l2_entry_at-e-requires
 l2_entry_at-e-requires c = let i = table_inside _ _ _ c.in_ok-check_entry.ensures in omega arith
 
-pub returns : goal.returns
-unfolding follow
-returns c = (rw (c.l2_entry_at-e.ensures, c.bits.ensures) at c.end_at.ensures) ∙ sym (c.in_ok-check_entry.ensures _)
