@@ -2,7 +2,7 @@
 use mathlib.Core.Bool.{Bool, true, false}
 use mathlib.Core.List.{List, [], ◌∷◌}
 use mathlib.Core.Logic.{◌≢◌}
-use mathlib.Core.Path.{◌≡◌, refl, sym, ◌∙◌}
+use mathlib.Core.Path.{◌≡◌, refl, ◌∙◌}
 use Prim.Native.Nat.{ℕ, zero, suc, ◌+◌, ◌*◌, ◌/◌, ◌<◌, ◌≤◌}
 use native.Mathlib.Omega.{arith}
 use lib.ListN.{length, get_or}
@@ -10,13 +10,14 @@ use Rattle.words.proofs.Bounded.{differ, same, or_false_left}
 use Rattle.entries.specs.Entries.{l1}
 use Rattle.rules.specs.Refusals.{Refusal, ◌if◌, answer_of}
 use Rattle.rules.specs.Store.{block_bytes, Store, base, blocks, active, misfit_stored}
-use Rattle.rules.specs.Outcomes.{Outcome, Accepted, settle, call_outcome}
+use Rattle.rules.specs.Outcomes.{Accepted, settle}
 use Rattle.rules.specs.Registers.{registers_bytes, misfit_registers}
 use Rattle.rules.specs.Guest.{Walk, stops, ends, byte_index, written, unmarked, byte_given, Access, walk_refusals, active_walk, no_active_table, guest_refusals, guest_accepted, guest_outcome, walk_level, registers_after, guest_registers}
 use Rattle.rules.specs.Tables.{table_blocks}
 use Rattle.rules.specs.General.{misaligned, table_outside}
 use Rattle.rules.proofs.State.{fits_stored, within}
 use Rattle.ledger.specs.Needs.{InLedger}
+use Rattle.ledger.proofs.Judge.{refuses}
 use Rattle.guest.specs.declared.access.Access as access
 use Rattle.guest.specs.declared.access.Access.TheVariants.{Read, Fetch, Write}
 use Rattle.guest.specs.Meaning.{access_of}
@@ -118,3 +119,6 @@ module _ (a : Access) (s : Store) (registers : List ℕ) (addr : ℕ) where
   pub outcome_accepted : 0 ≡ answer_of refusals → let new = guest_accepted a s addr in guest_outcome a s registers addr ≡ record { answer = 0; after = new.store; byte = new.byte; hashed = new.hashed }
   unfolding guest_outcome settle
   outcome_accepted e = rw (← e) refl
+
+-- what load and write need
+pub ruleset outcomes = (loaded, outcome_refused, outcome_accepted, refuses)

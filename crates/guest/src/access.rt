@@ -144,7 +144,7 @@ fn judge(
 }
 
 // The byte of a read or a fetch (guest byte).
-#[tactic(auto, using(crate::proofs::Accesses::loaded, crate::proofs::Accesses::outcome_refused, crate::proofs::Accesses::outcome_accepted, ledger::proofs::Judge::refuses), unfolding(rules::specs::Guest::written, rules::specs::Guest::unmarked))]
+#[tactic(auto, using(crate::proofs::Accesses::outcomes), unfolding(rules::specs::Guest::written, rules::specs::Guest::unmarked))]
 fn load(
     memory: &[u8],
     ledger: &[u8],
@@ -162,12 +162,8 @@ fn load(
     Ok(memory[at])
 }
 
-pub fn read(
-    memory: &[u8],
-    ledger: &[u8],
-    registers: &mut [u8],
-    address: u32,
-) -> Result<u8, Refusal>
+// Reads a byte.
+pub fn read(memory: &[u8], ledger: &[u8], registers: &mut [u8], address: u32) -> Result<u8, Refusal>
     ensures value { answered result ≡ (guest_outcome reads (lent memory.now ledger.now) registers.old address).answer }
     ensures byte { given result ≡ (guest_outcome reads (lent memory.now ledger.now) registers.old address).byte }
     ensures ledger_value { lent memory.now ledger.now ≡ (guest_outcome reads (lent memory.now ledger.now) registers.old address).after }
@@ -176,6 +172,7 @@ pub fn read(
     load(memory, ledger, registers, Access::Read, address)
 }
 
+// Fetches a byte, to execute it.
 pub fn fetch(
     memory: &[u8],
     ledger: &[u8],
@@ -191,7 +188,7 @@ pub fn fetch(
 }
 
 // Stores the low 8 bits of the byte and clears the mark of its block (guest leaves).
-#[tactic(auto, using(crate::proofs::Accesses::loaded, crate::proofs::Accesses::outcome_refused, crate::proofs::Accesses::outcome_accepted, ledger::proofs::Judge::refuses), unfolding(rules::specs::Guest::written, rules::specs::Guest::unmarked))]
+#[tactic(auto, using(crate::proofs::Accesses::outcomes), unfolding(rules::specs::Guest::written, rules::specs::Guest::unmarked))]
 pub fn write(
     memory: &mut [u8],
     ledger: &mut [u8],

@@ -1,8 +1,4 @@
 -- A walk that stopped has its number and level; at the end of another the right decides.
-use mathlib.Core.Path.{refl}
-use Rattle.std.proofs.lemmas.Result.{err_from_is_err_and}
-use Rattle.rules.specs.Refusals.{answer_of}
-use Rattle.rules.specs.Guest.{byte_index, walk_level, walk_refusals}
 use Rattle.guest.specs.Meaning.{count_of}
 use Rattle.guest.proofs.Walking.{InRegion, walk_in_region}
 use Rattle.guest.proofs.access.locate.Goals as goal
@@ -12,4 +8,3 @@ unfolding InRegion
 overflow_sub-result c =
     let b = c.args.blocks.now in
     (rw (← c.in_ok-end.ensures) at (walk_in_region b.first (count_of b) c.args.address b.memory.now c.args.table)).0
-
