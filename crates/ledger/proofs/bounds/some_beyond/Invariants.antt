@@ -7,7 +7,7 @@ use Rattle.ledger.specs.Layout.{field_word}
 use Rattle.ledger.proofs.bounds.some_beyond.Given as goal
 
 abbrev pub invariant-loop-i : goal.invariant-loop-i
-invariant-loop-i l = Scanned (λ j. beyond l.least l.most (record_word l.ledger (field_word l.field) (l.b + j))) l.m l.i
+invariant-loop-i l = Scanned (λ j. beyond l.bounds.least l.bounds.most (record_word l.ledger (field_word l.field) (l.b + j))) l.m l.i
 
 abbrev pub decreases-loop-i : goal.decreases-loop-i
 decreases-loop-i l = l.m - l.i
