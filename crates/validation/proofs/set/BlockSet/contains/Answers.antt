@@ -1,7 +1,7 @@
 -- The bit of the block.
 use mathlib.Core.Path.{refl}
 use Rattle.validation.specs.Sets.{member}
-use Rattle.validation.proofs.set.contains.Goals as goal
+use Rattle.validation.proofs.set.BlockSet.contains.Goals as goal
 
 pub returns : goal.returns
 unfolding member

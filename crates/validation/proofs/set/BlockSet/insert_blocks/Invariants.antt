@@ -2,13 +2,12 @@
 use mathlib.Core.Bool.{◌||◌}
 use mathlib.Core.Path.{◌≡◌}
 use Prim.Native.Nat.{ℕ, ◌-◌, ◌≤◌}
-use lib.ListN.{length}
 use Rattle.words.specs.Bounded.{among}
 use Rattle.validation.specs.Sets.{member}
-use Rattle.validation.proofs.set.insert_blocks.Given as goal
+use Rattle.validation.proofs.set.BlockSet.insert_blocks.Given as goal
 
 abbrev pub invariant-loop-i : goal.invariant-loop-i
-invariant-loop-i l = (l.i ≤ l.m) × (length l.members ≡ length l.initial.members) × ((k : ℕ) → member l.members k ≡ (member l.initial.members k || among l.b l.i k))
+invariant-loop-i l = (l.i ≤ l.m) × ((k : ℕ) → member l.self.bits k ≡ (member l.initial.self.bits k || among l.b l.i k))
 
 abbrev pub decreases-loop-i : goal.decreases-loop-i
 decreases-loop-i l = l.m - l.i

@@ -1,15 +1,15 @@
 use native.Mathlib.Omega.{arith}
 use Rattle.words.proofs.Bounded.{told, scan_start, scan_next, scan_found, scan_end}
-use Rattle.validation.proofs.set.contains_some.Goals as goal
+use Rattle.validation.proofs.set.BlockSet.contains_some.Goals as goal
 
 pub loop-i-init : goal.loop-i-init
 loop-i-init c = scan_start _ _
 
 pub overflow_add-b : goal.overflow_add-b
-overflow_add-b c = omega (arith, c.requires.1)
+overflow_add-b c = omega (arith, c.requires)
 
 pub contains-requires : goal.contains-requires
-contains-requires c = (c.requires.0, omega (arith, c.requires.1))
+contains-requires c = omega (arith, c.requires)
 
 pub returns-then-contains : goal.returns-then-contains
 returns-then-contains c = scan_found _ _ c.loop-i.i (omega arith) (told c.contains.ensures c.if-contains.true)
