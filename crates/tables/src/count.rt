@@ -60,12 +60,7 @@ fn is_stuck(change: Change, ledger: &[u8], e: Entry) -> bool
 }
 
 // Counts an entry, or leaves the ledger if a counter can't be changed. Most entries of a table may grant nothing.
-fn count_entry(
-    change: Change,
-    memory: &[u8],
-    ledger: &mut [u8],
-    e: Entry,
-) -> Result<(), Refusal>
+fn count_entry(change: Change, memory: &[u8], ledger: &mut [u8], e: Entry) -> Result<(), Refusal>
     requires { Placed memory.now ledger.old (meaning e) }
     ensures { ChangedUnless (entry_beyond (least_before (change_of change)) (most_of (change_of change)) ledger.old (meaning e)) (recounted (change_of change) (lent memory.now ledger.old) 1 (λ k. meaning e)) ledger.old (is_ok result) ledger.new }
 {
