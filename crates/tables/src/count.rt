@@ -25,6 +25,8 @@ use ledger::layout::{BlockType, COUNTER_LIMIT, record_of};
 use ledger::refusals::Refusal;
 use ledger::table::{table_blocks, table_entries, table_type};
 
+const LARGEST_WORD: u32 = u32::MAX;
+
 const WITHIN_LIMIT: Bounds = Bounds {
     least: 0,
     most: COUNTER_LIMIT,
@@ -36,7 +38,7 @@ fn most_of(change: Change) -> u32
 {
     match change {
         Change::Added => COUNTER_LIMIT - 1,
-        Change::Removed => u32::MAX,
+        Change::Removed => LARGEST_WORD,
     }
 }
 
