@@ -20,12 +20,7 @@ pub fn some_differs(ledger: &[u8], field: Field, b: usize, m: usize, v: u32) -> 
     if m == 1 {
         return record_word(ledger, field, b) != v;
     }
-    for i in 0..m {
-        if record_word(ledger, field, b + i) != v {
-            return true;
-        }
-    }
-    false
+    (0..m).any(|i| record_word(ledger, field, b + i) != v)
 }
 
 // The field is above 0 in some of the m records from block b on.
@@ -66,11 +61,6 @@ impl Region<'_> {
         if !some_differs(self.ledger, Field::Mark, b, m as usize, MARKED) {
             return false;
         }
-        for i in 0..m {
-            if self.is_unknown(golden, p + i) {
-                return true;
-            }
-        }
-        false
+        (0..m).any(|i| self.is_unknown(golden, p + i))
     }
 }

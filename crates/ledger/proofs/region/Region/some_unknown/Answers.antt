@@ -1,6 +1,12 @@
-use mathlib.Core.Path.{sym}
+use mathlib.Core.Path.{sym, refl}
 use native.Mathlib.Omega.{arith}
-use Rattle.words.proofs.Bounded.{told, scan_start, scan_next, scan_found, scan_end}
+use Prim.Native.Nat.{◌+◌, ◌<◌}
+use borrow.Author.Tests.{tests}
+use Rattle.std.proofs.Common.{rules}
+use Rattle.std.proofs.lemmas.Iterator.{serves_from_Range}
+use Rattle.words.proofs.Bounded.{told}
+use Rattle.words.proofs.Scans.{any_below}
+use Rattle.ledger.specs.Needs.{BlocksInside}
 use Rattle.rules.specs.Store.{some_block}
 use Rattle.rules.proofs.State.{fits_stored, within, inside}
 use Rattle.ledger.proofs.Marking.{all_marked}
@@ -21,22 +27,15 @@ returns-then-not-some_differs c =
     let start = c.before.before.before.before.before.before in
     sym (all_marked _ _ _ _ c.record_of-b.ensures.is (within _ _ _ _ start.requires).0 (told c.some_differs.ensures c.if-not-some_differs.true))
 
-pub loop-i-init : goal.loop-i-init
-loop-i-init c = scan_start _ _
-
-pub overflow_add-p : goal.overflow_add-p
-overflow_add-p c = let fit = fits_stored _ c.args.self.now.fits in let (lo, hi) = within _ _ _ _ c.requires in omega arith
-
-pub is_unknown-requires : goal.is_unknown-requires
-is_unknown-requires c = let (lo, hi) = within _ _ _ _ c.requires in inside _ _ _ _ (omega arith) (omega arith)
-
-pub returns-then-is_unknown : goal.returns-then-is_unknown
-unfolding some_block
-returns-then-is_unknown c = scan_found _ _ c.loop-i.i (omega arith) (rw c.is_unknown.ensures at c.if-is_unknown.true)
-
-pub loop-i-preserved : goal.loop-i-preserved
-loop-i-preserved c = scan_next _ _ _ c.loop-i.invariant (omega arith) (rw c.is_unknown.ensures at c.if-is_unknown.false)
+pub any-requires-clause-callable : goal.any-requires-clause-callable
+any-requires-clause-callable c =
+    let fit = fits_stored _ c.args.self.now.fits in
+    let (lo, hi) = within _ _ _ _ c.requires in
+    serves_from_Range (λ x q k. search rules) (λ x a b.
+    let part : BlocksInside c.args.self.now.memory.now c.args.self.now.ledger.now (c.args.p + x) 1 = inside _ _ _ _ (omega arith) (omega arith) in
+    let sum : c.args.p + x < 4294967296 = omega arith in
+    search rules)
 
 pub returns : goal.returns
 unfolding some_block
-returns c = scan_end _ _ _ c.loop-i.invariant (omega arith)
+returns c = any_below _ _ _ _ _ c.any.ensures.ran refl (λ x b q k. search (rules, tests))
