@@ -15,6 +15,7 @@ use crate::counters::{Change, Counter, grants};
 use crate::layout::{COUNTER_LIMIT, Field, record_of, record_word};
 use crate::region::Region;
 use entries::entry::Entry;
+use words::some_below;
 
 // The least and the greatest value that a counter may have.
 #[derive(Clone, Copy)]
@@ -53,18 +54,11 @@ fn some_beyond(ledger: &[u8], field: Field, b: usize, m: usize, bounds: Bounds) 
     requires { InLedger ledger.now (b + m) }
     ensures { result ≡ any m (λ i. beyond bounds.least bounds.most (record_word ledger.now (field_word field) (b + i))) }
 {
-    (0..m).any(|i| bounds.exclude(record_word(ledger, field, b + i)))
+    some_below(m, |i| bounds.exclude(record_word(ledger, field, b + i)))
 }
 
 // They exclude a counter that the entry grants, on some of the m blocks from p on.
-fn counter_beyond(
-    ledger: &[u8],
-    counter: Counter,
-    e: Entry,
-    p: u32,
-    m: u32,
-    bounds: Bounds,
-) -> bool
+fn counter_beyond(ledger: &[u8], counter: Counter, e: Entry, p: u32, m: u32, bounds: Bounds) -> bool
     requires { GrantsRecorded ledger.now (meaning e) p m }
     ensures { result ≡ counter_beyond bounds.least bounds.most ledger.now (counter_of counter) (meaning e) p m }
 {

@@ -1,6 +1,6 @@
 // The marks of blocks: whether they are set, set them, clear them (ledger 9, ledger 10).
 ghost use Rattle.std.specs.Prelude.{not, ◌≡◌, ℕ, ◌+◌, ◌≤◌, eqb, leb};
-ghost use Rattle.words.specs.Bounded.{count};
+ghost use Rattle.words.specs.Bounded.{count, num};
 ghost use Rattle.entries.specs.Entries as specified;
 ghost use Rattle.entries.specs.Meaning.{meaning};
 ghost use Rattle.rules.specs.Store.{base, blocks, clear_mark, clear_marks, lent, mark_blocks, mark_value, mark_word, most_blocks, put_record_word, record_word};
@@ -58,12 +58,21 @@ fn mark_blocks(ledger: &mut [u8], b: usize, m: usize)
     }
 }
 
+// 1 for a block that is not marked.
+#[tactic(auto, unfolding(words::specs::Bounded::num))]
+fn unmarked(ledger: &[u8], b: usize) -> u32
+    requires { InLedger ledger.now (b + 1) }
+    ensures { result ≡ num (not (eqb (record_word ledger.now mark_word b) mark_value)) }
+{
+    u32::from(!is_marked(ledger, b))
+}
+
 // How many of the m blocks from b on are not marked.
 fn count_unmarked(ledger: &[u8], b: usize, m: usize) -> u32
     requires { InLedger ledger.now (b + m) × (m ≤ most_blocks) }
     ensures { result ≡ count m (λ i. not (eqb (record_word ledger.now mark_word (b + i)) mark_value)) }
 {
-    (0..m).filter(|i| !is_marked(ledger, b + i)).count() as u32
+    (0..m).map(|i| unmarked(ledger, b + i)).sum()
 }
 
 // Marks the m blocks from p on, if the entry lets them execute. Of the memory only the number of blocks matters.

@@ -1,10 +1,8 @@
 use mathlib.Core.Path.{refl}
 use Prim.Native.Nat.{◌+◌}
 use native.Mathlib.Omega.{arith}
-use borrow.Author.Tests.{tests}
-use Rattle.std.proofs.Common.{rules, ◌≡◌}
+use Rattle.std.proofs.Common.{rules, tests, ◌≡◌}
 use Rattle.words.specs.Bounded.{any}
-use Rattle.words.proofs.Scans.{any_below}
 use Rattle.ledger.proofs.scan.some_differs.Goals as goal
 
 pub returns-then-m-eq1 : goal.returns-then-m-eq1
@@ -12,4 +10,4 @@ unfolding any
 returns-then-m-eq1 c = let b = c.args.b in let at : b + 0 ≡ b = omega arith in rw (c.if-m-eq1.true, at, c.record_word.ensures) refl
 
 pub returns : goal.returns
-returns c = any_below _ _ _ _ _ c.any.ensures.ran refl (λ x b q k. search (rules, tests))
+returns c = c.some_below.ensures _ (λ i b l k. search (rules, tests))

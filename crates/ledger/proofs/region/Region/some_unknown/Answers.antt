@@ -1,11 +1,8 @@
-use mathlib.Core.Path.{sym, refl}
+use mathlib.Core.Path.{sym}
 use native.Mathlib.Omega.{arith}
 use Prim.Native.Nat.{◌+◌, ◌<◌}
-use borrow.Author.Tests.{tests}
-use Rattle.std.proofs.Common.{rules}
-use Rattle.std.proofs.lemmas.Iterator.{serves_from_Range}
+use Rattle.std.proofs.Common.{rules, tests}
 use Rattle.words.proofs.Bounded.{told}
-use Rattle.words.proofs.Scans.{any_below}
 use Rattle.ledger.specs.Needs.{BlocksInside}
 use Rattle.rules.specs.Store.{some_block}
 use Rattle.rules.proofs.State.{fits_stored, within, inside}
@@ -27,15 +24,15 @@ returns-then-not-some_differs c =
     let start = c.before.before.before.before.before.before in
     sym (all_marked _ _ _ _ c.record_of-b.ensures.is (within _ _ _ _ start.requires).0 (told c.some_differs.ensures c.if-not-some_differs.true))
 
-pub any-requires-clause-callable : goal.any-requires-clause-callable
-any-requires-clause-callable c =
+pub some_below-requires : goal.some_below-requires
+some_below-requires c = λ i l.
     let fit = fits_stored _ c.args.self.now.fits in
     let (lo, hi) = within _ _ _ _ c.requires in
-    serves_from_Range (λ x q k. search rules) (λ x a b.
-    let part : BlocksInside c.args.self.now.memory.now c.args.self.now.ledger.now (c.args.p + x) 1 = inside _ _ _ _ (omega arith) (omega arith) in
-    let sum : c.args.p + x < 4294967296 = omega arith in
-    search rules)
+    let part : BlocksInside c.args.self.now.memory.now c.args.self.now.ledger.now (c.args.p + i) 1 = inside _ _ _ _ (omega arith) (omega arith) in
+    let sum : c.args.p + i < 4294967296 = omega arith in
+    let number : i < 4294967296 = omega arith in
+    search rules
 
 pub returns : goal.returns
 unfolding some_block
-returns c = any_below _ _ _ _ _ c.any.ensures.ran refl (λ x b q k. search (rules, tests))
+returns c = c.some_below.ensures _ (λ i b l k. search (rules, tests))
