@@ -1,9 +1,9 @@
 -- A set of blocks of a region, by their places in it: block b is bit b % 8 of byte b / 8 (RULES: create, memory).
-use Rattle.std.specs.Prelude.{Bool, false, cond, not, ◌&&◌, ◌||◌, List, ◌≡◌, ℕ, ◌+◌, ◌*◌, ◌/◌, ◌%◌, ◌^◌, ◌<◌, ◌≤◌, eqb, length, get_or}
+use Rattle.std.specs.Prelude.{Bool, false, cond, not, ◌&&◌, ◌||◌, List, ◌≡◌, ℕ, ◌+◌, ◌*◌, ◌/◌, ◌%◌, ◌^◌, ◌<◌, ◌≤◌, eqb, get_or}
 use Rattle.words.specs.Bounded.{any, count}
 use Rattle.entries.specs.Entries.{Entry, cover_first, cover_blocks}
 use Rattle.rules.specs.Signature.{unknown}
-use Rattle.rules.specs.Store.{most_blocks, Store, blocks, base, record_word, writable, executable, mark_word, mark_value, some_block}
+use Rattle.rules.specs.Store.{Store, blocks, base, record_word, writable, executable, mark_word, mark_value, some_block}
 use Rattle.rules.specs.Tables.{grants, gives, executed}
 use Rattle.rules.specs.General.{hashed_blocks}
 use Rattle.ledger.specs.Needs.{record_of}
@@ -15,10 +15,6 @@ is_set x i = eqb (x / 2 ^ i % 2) 1
 -- the set has block b of the region; it has no block behind its last bit
 unfoldable pub member : List ℕ → ℕ → Bool
 member members b = is_set (get_or members (b / 8) 0) (b % 8)
-
--- memory 1: the set has a bit for each block of the largest region, and no more
-abbrev pub WholeSet : List ℕ → Type 0
-WholeSet members = 8 * length members ≡ most_blocks
 
 -- create 11: the entry gives write to a block of the set; no meaning for blocks below B
 unfoldable pub meets_members : List ℕ → List ℕ → Entry → Bool

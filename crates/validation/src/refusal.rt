@@ -1,68 +1,71 @@
 // Refusals 8, 10, 11 and 12 of a table's m entries from word j of the memory on: a lower number of any entry comes before a higher one of any other.
-ghost use Rattle.std.specs.Prelude.{◌≡◌};
+ghost use Rattle.std.specs.Prelude.{IfOk, ◌≡◌};
 ghost use Rattle.entries.specs.Meaning.{level_of};
 ghost use Rattle.rules.specs.Refusals.{answer_of};
-ghost use Rattle.rules.specs.Store.{lent};
-ghost use Rattle.ledger.specs.Needs.{Fits};
+ghost use Rattle.ledger.specs.Refusals.{answered};
+ghost use Rattle.ledger.specs.Regions.{store_of};
 ghost use Rattle.validation.specs.Needs.{HoldsWords};
-ghost use Rattle.validation.specs.Sets.{Admitted, EmptySet, WholeSet};
+ghost use Rattle.validation.specs.Sets.{Admitted, EmptySet};
 ghost use Rattle.validation.specs.Pieces.{new_entries, old_entries};
 ghost use Rattle.validation.specs.Tests.{entry_from};
 
-use crate::executed::executed_refusal;
+use crate::executed::check_executed;
 use crate::finding::{EXECUTES, MEETS_COUNT, MISPLACED, UNACCEPTED};
+use crate::set::BlockSet;
 use crate::survey::{survey_new, survey_old};
 use entries::entry::Level;
-use ledger::layout::base;
-use ledger::refusals::{ACCEPTED, CLASH, UNFIT_TARGET, WRONG_ENTRY};
-use ledger::region::blocks;
+use ledger::refusals::Refusal;
+use ledger::region::Region;
 
-// The table is created at a block. If it may be, the set, empty before, is that of the blocks that its entries execute, and those that are not
-// marked are counted.
-pub fn new_entries_refusal(
+// The table is created at a block. If it may be, the set, empty before, is that of the blocks that its entries execute, and the number is that of those
+// that are not marked.
+pub fn check_new_entries(
     level: Level,
-    memory: &[u8],
-    ledger: &[u8],
+    region: &Region<'_>,
     golden: &[u8],
-    members: &mut [u8],
-    hashed: &mut u32,
+    members: &mut BlockSet,
     block: u32,
     j: usize,
     m: usize,
-) -> u32
-    requires fits { Fits memory.now ledger.now × HoldsWords memory.now j m }
-    requires whole_set { WholeSet members.old × EmptySet members.old × (hashed.old ≡ 0) }
-    ensures value { result ≡ answer_of (new_entries (level_of level) golden.now (lent memory.now ledger.now) block m (entry_from (level_of level) memory.now j)) }
-    ensures admitted { result ≡ 0 → Admitted (lent memory.now ledger.now) m (entry_from (level_of level) memory.now j) members.new hashed.new }
+) -> Result<u32, Refusal>
+    requires holds_words { HoldsWords region.now.memory.now j m }
+    requires empty { EmptySet members.old.bits }
+    ensures value { answered result ≡ answer_of (new_entries (level_of level) golden.now (store_of region.now) block m (entry_from (level_of level) region.now.memory.now j)) }
+    ensures admitted { IfOk result (λ n. Admitted (store_of region.now) m (entry_from (level_of level) region.now.memory.now j) members.new.bits n) }
 {
     let mut writes = 0;
-    let found = survey_new(level, memory, ledger, members, &mut writes, block, j, m);
+    let found = survey_new(level, region, members, &mut writes, block, j, m);
     if found == UNACCEPTED {
-        return WRONG_ENTRY;
+        return Err(Refusal::WrongEntry);
     }
     if found == MISPLACED {
-        return UNFIT_TARGET;
+        return Err(Refusal::UnfitTarget);
     }
     if found == MEETS_COUNT {
-        return CLASH;
+        return Err(Refusal::Clash);
     }
     if found == EXECUTES {
-        return executed_refusal(level, memory, ledger, golden, members, writes, hashed, j, m);
+        return check_executed(level, region, golden, members, writes, j, m);
     }
-    ACCEPTED
+    Ok(0)
 }
 
 // The table is freed.
-pub fn old_entries_refusal(level: Level, memory: &[u8], ledger: &[u8], j: usize, m: usize) -> u32
-    requires { Fits memory.now ledger.now × HoldsWords memory.now j m }
-    ensures { result ≡ answer_of (old_entries (lent memory.now ledger.now) m (entry_from (level_of level) memory.now j)) }
+pub fn check_old_entries(
+    level: Level,
+    region: &Region<'_>,
+    j: usize,
+    m: usize,
+) -> Result<(), Refusal>
+    requires { HoldsWords region.now.memory.now j m }
+    ensures { answered result ≡ answer_of (old_entries (store_of region.now) m (entry_from (level_of level) region.now.memory.now j)) }
 {
-    let found = survey_old(level, memory, j, m, base(ledger), blocks(memory));
+    let found = survey_old(level, region, j, m);
     if found == UNACCEPTED {
-        return WRONG_ENTRY;
+        return Err(Refusal::WrongEntry);
     }
     if found == MISPLACED {
-        return UNFIT_TARGET;
+        return Err(Refusal::UnfitTarget);
     }
-    ACCEPTED
+    Ok(())
 }

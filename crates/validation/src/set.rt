@@ -2,7 +2,7 @@
 ghost use Rattle.std.specs.Prelude.{◌||◌, ◌≡◌, ℕ, ◌+◌, ◌<◌, ◌≤◌, eqb};
 ghost use Rattle.words.specs.Bounded.{among, any};
 ghost use Rattle.rules.specs.Store.{most_blocks};
-ghost use Rattle.validation.specs.Sets.{WholeSet, is_set, member};
+ghost use Rattle.validation.specs.Sets.{EmptySet, is_set, member};
 
 use ledger::layout::MOST_BLOCKS;
 
@@ -11,11 +11,9 @@ const BYTE_BITS: usize = 8;
 // The bytes of a set for any region.
 pub const SET_BYTES: usize = MOST_BLOCKS / BYTE_BITS;
 
-pub fn contains(members: &[u8], b: usize) -> bool
-    requires { WholeSet members.now × (b < most_blocks) }
-    ensures { result ≡ member members.now b }
-{
-    (members[b / BYTE_BITS] >> (b % BYTE_BITS)) % 2 == 1
+#[derive(Drop)]
+pub struct BlockSet {
+    pub bits: [u8; SET_BYTES],
 }
 
 // The byte x with bit i set too.
@@ -26,38 +24,56 @@ fn with_bit(x: u8, i: usize) -> u8
     x | (1 << i)
 }
 
-// Block b joins the set.
-fn insert(members: &mut [u8], b: usize)
-    requires { WholeSet members.old × (b < most_blocks) }
-    ensures { (k : ℕ) → member members.new k ≡ (member members.old k || eqb b k) }
-{
-    let x = with_bit(members[b / BYTE_BITS], b % BYTE_BITS);
-    members[b / BYTE_BITS] = x;
-}
-
-// The m blocks from b on join the set. Most entries cover one, which joins without the loop.
-pub fn insert_blocks(members: &mut [u8], b: usize, m: usize)
-    requires { WholeSet members.old × (b + m ≤ most_blocks) }
-    ensures { (k : ℕ) → member members.new k ≡ (member members.old k || among b m k) }
-{
-    if m == 1 {
-        insert(members, b);
-        return;
-    }
-    for i in 0..m {
-        insert(members, b + i);
-    }
-}
-
-// The set has some of the m blocks from b on.
-pub fn contains_some(members: &[u8], b: usize, m: usize) -> bool
-    requires { WholeSet members.now × (b + m ≤ most_blocks) }
-    ensures { result ≡ any m (λ i. member members.now (b + i)) }
-{
-    for i in 0..m {
-        if contains(members, b + i) {
-            return true;
+impl BlockSet {
+    // The set that has no block.
+    pub fn new() -> BlockSet
+        ensures { EmptySet result.bits }
+    {
+        BlockSet {
+            bits: [0; SET_BYTES],
         }
     }
-    false
+
+    pub fn contains(&self, b: usize) -> bool
+        requires { b < most_blocks }
+        ensures { result ≡ member self.now.bits b }
+    {
+        (self.bits[b / BYTE_BITS] >> (b % BYTE_BITS)) % 2 == 1
+    }
+
+    // Block b joins the set.
+    fn insert(&mut self, b: usize)
+        requires { b < most_blocks }
+        ensures { (k : ℕ) → member self.new.bits k ≡ (member self.old.bits k || eqb b k) }
+    {
+        let x = with_bit(self.bits[b / BYTE_BITS], b % BYTE_BITS);
+        self.bits[b / BYTE_BITS] = x;
+    }
+
+    // The m blocks from b on join the set. Most entries cover one, which joins without the loop.
+    pub fn insert_blocks(&mut self, b: usize, m: usize)
+        requires { b + m ≤ most_blocks }
+        ensures { (k : ℕ) → member self.new.bits k ≡ (member self.old.bits k || among b m k) }
+    {
+        if m == 1 {
+            self.insert(b);
+            return;
+        }
+        for i in 0..m {
+            self.insert(b + i);
+        }
+    }
+
+    // The set has some of the m blocks from b on.
+    pub fn contains_some(&self, b: usize, m: usize) -> bool
+        requires { b + m ≤ most_blocks }
+        ensures { result ≡ any m (λ i. member self.now.bits (b + i)) }
+    {
+        for i in 0..m {
+            if self.contains(b + i) {
+                return true;
+            }
+        }
+        false
+    }
 }

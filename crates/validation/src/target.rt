@@ -2,80 +2,87 @@
 ghost use Rattle.std.specs.Prelude.{false, ◌≡◌, ◌<◌};
 ghost use Rattle.entries.specs.Meaning.{level_of, meaning};
 ghost use Rattle.rules.specs.Create.{unfit_link, unfit_write};
-ghost use Rattle.rules.specs.Store.{lent, writable};
+ghost use Rattle.rules.specs.Store.{writable};
 ghost use Rattle.rules.specs.Tables.{grants};
 ghost use Rattle.ledger.specs.Meaning.{counter_of};
-ghost use Rattle.ledger.specs.Needs.{EntryRecorded, Fits};
+ghost use Rattle.ledger.specs.Needs.{EntryRecorded};
+ghost use Rattle.ledger.specs.Regions.{store_of};
 ghost use Rattle.validation.specs.Findings.{entry_finding, target_finding};
-ghost use Rattle.validation.specs.Needs.{Placed};
-ghost use Rattle.validation.specs.Sets.{Gathered, WholeSet};
+ghost use Rattle.validation.specs.Needs.{InRegion};
+ghost use Rattle.validation.specs.Sets.{Gathered};
 ghost use Rattle.validation.specs.Tests.{meets, meets_count, unfit};
 
 use crate::cover::{cover_counts, cover_differs, overlap};
 use crate::executed::insert_executed;
 use crate::finding::{EXECUTES, FINE, MEETS_COUNT, MISPLACED, UNACCEPTED};
+use crate::set::BlockSet;
 use entries::entry::{Entry, Level};
 use ledger::counters::{Counter, grants, grants_some};
-use ledger::layout::{TYPE_D, TYPE_L2, base};
-use ledger::region::{blocks, is_astray};
+use ledger::layout::BlockType;
+use ledger::region::Region;
 use ledger::table::table_blocks;
 
 // A link to a block that is not L2 (create 10).
-fn is_unfit_link(memory: &[u8], ledger: &[u8], e: Entry) -> bool
-    requires { EntryRecorded ledger.now (meaning e) }
-    ensures { result ≡ unfit_link (lent memory.now ledger.now) (meaning e) }
+fn is_unfit_link(region: &Region<'_>, e: Entry) -> bool
+    requires { EntryRecorded region.now.ledger.now (meaning e) }
+    ensures { result ≡ unfit_link (store_of region.now) (meaning e) }
 {
     if e.is_link() {
-        return cover_differs(ledger, e, TYPE_L2);
+        return cover_differs(region, e, BlockType::L2);
     }
     false
 }
 
 // Write to a block that is no data, or belongs to the new table (create 10).
-fn is_unfit_write(level: Level, memory: &[u8], ledger: &[u8], block: u32, e: Entry) -> bool
-    requires { EntryRecorded ledger.now (meaning e) }
-    ensures { result ≡ unfit_write (level_of level) (lent memory.now ledger.now) block (meaning e) }
+fn is_unfit_write(level: Level, region: &Region<'_>, block: u32, e: Entry) -> bool
+    requires { EntryRecorded region.now.ledger.now (meaning e) }
+    ensures { result ≡ unfit_write (level_of level) (store_of region.now) block (meaning e) }
 {
     if !grants(Counter::Writable, e) {
         return false;
     }
-    if cover_differs(ledger, e, TYPE_D) {
+    if cover_differs(region, e, BlockType::Data) {
         return true;
     }
-    overlap(e.cover_first(), e.cover_blocks(), block, table_blocks(level))
+    overlap(
+        e.cover_first(),
+        e.cover_blocks(),
+        block,
+        table_blocks(level),
+    )
 }
 
 // Its target is unfit.
-fn is_unfit(level: Level, memory: &[u8], ledger: &[u8], block: u32, e: Entry) -> bool
-    requires { EntryRecorded ledger.now (meaning e) }
-    ensures { result ≡ unfit (level_of level) (lent memory.now ledger.now) block (meaning e) }
+fn is_unfit(level: Level, region: &Region<'_>, block: u32, e: Entry) -> bool
+    requires { EntryRecorded region.now.ledger.now (meaning e) }
+    ensures { result ≡ unfit (level_of level) (store_of region.now) block (meaning e) }
 {
-    if is_unfit_link(memory, ledger, e) {
+    if is_unfit_link(region, e) {
         return true;
     }
-    is_unfit_write(level, memory, ledger, block, e)
+    is_unfit_write(level, region, block, e)
 }
 
 // The entry grants one thing to a block that is counted for another.
-fn meets(ledger: &[u8], granted: Counter, counted: Counter, e: Entry) -> bool
-    requires { EntryRecorded ledger.now (meaning e) }
-    ensures { result ≡ meets (counter_of granted) (counter_of counted) ledger.now (meaning e) }
+fn meets(region: &Region<'_>, granted: Counter, counted: Counter, e: Entry) -> bool
+    requires { EntryRecorded region.now.ledger.now (meaning e) }
+    ensures { result ≡ meets (counter_of granted) (counter_of counted) region.now.ledger.now (meaning e) }
 {
     if grants(granted, e) {
-        return cover_counts(ledger, counted, e);
+        return cover_counts(region, counted, e);
     }
     false
 }
 
 // The entry writes where the ledger has execute counted, or the other way round.
-fn meets_count(ledger: &[u8], e: Entry) -> bool
-    requires { EntryRecorded ledger.now (meaning e) }
-    ensures { result ≡ meets_count ledger.now (meaning e) }
+fn meets_count(region: &Region<'_>, e: Entry) -> bool
+    requires { EntryRecorded region.now.ledger.now (meaning e) }
+    ensures { result ≡ meets_count region.now.ledger.now (meaning e) }
 {
-    if meets(ledger, Counter::Writable, Counter::Executable, e) {
+    if meets(region, Counter::Writable, Counter::Executable, e) {
         return true;
     }
-    meets(ledger, Counter::Executable, Counter::Writable, e)
+    meets(region, Counter::Executable, Counter::Writable, e)
 }
 
 // A number that stays 0 says that the entry does not write.
@@ -91,26 +98,25 @@ fn note_write(writes: &mut u32, e: Entry)
 // set, and that it writes is noted.
 fn target_finding(
     level: Level,
-    memory: &[u8],
-    ledger: &[u8],
-    members: &mut [u8],
+    region: &Region<'_>,
+    members: &mut BlockSet,
     writes: &mut u32,
     block: u32,
     e: Entry,
 ) -> u32
-    requires { Placed memory.now ledger.now (meaning e) × EntryRecorded ledger.now (meaning e) × WholeSet members.old }
-    ensures value { result ≡ target_finding (level_of level) (lent memory.now ledger.now) block (meaning e) }
-    ensures gathered { result < 2 → Gathered (lent memory.now ledger.now) (meaning e) members.old members.new writes.old writes.new }
+    requires { InRegion region.now.memory.now region.now.ledger.now (meaning e) × EntryRecorded region.now.ledger.now (meaning e) }
+    ensures value { result ≡ target_finding (level_of level) (store_of region.now) block (meaning e) }
+    ensures gathered { result < 2 → Gathered (store_of region.now) (meaning e) members.old.bits members.new.bits writes.old writes.new }
 {
-    if is_unfit(level, memory, ledger, block, e) {
+    if is_unfit(level, region, block, e) {
         return MISPLACED;
     }
-    if meets_count(ledger, e) {
+    if meets_count(region, e) {
         return MEETS_COUNT;
     }
     note_write(writes, e);
     if grants(Counter::Executable, e) {
-        insert_executed(memory, ledger, members, e);
+        insert_executed(region, members, e);
         return EXECUTES;
     }
     FINE
@@ -119,25 +125,23 @@ fn target_finding(
 // What is found of one entry of a table that is created at a block.
 pub fn entry_finding(
     level: Level,
-    memory: &[u8],
-    ledger: &[u8],
-    members: &mut [u8],
+    region: &Region<'_>,
+    members: &mut BlockSet,
     writes: &mut u32,
     block: u32,
     e: Entry,
 ) -> u32
-    requires { Fits memory.now ledger.now × WholeSet members.old }
-    ensures value { result ≡ entry_finding (level_of level) (lent memory.now ledger.now) block (meaning e) }
-    ensures gathered { result < 2 → Gathered (lent memory.now ledger.now) (meaning e) members.old members.new writes.old writes.new }
+    ensures value { result ≡ entry_finding (level_of level) (store_of region.now) block (meaning e) }
+    ensures gathered { result < 2 → Gathered (store_of region.now) (meaning e) members.old.bits members.new.bits writes.old writes.new }
 {
     if e.is_unaccepted() {
         return UNACCEPTED;
     }
-    if is_astray(e, base(ledger), blocks(memory)) {
+    if region.is_astray(e) {
         return MISPLACED;
     }
     if grants_some(e) {
-        return target_finding(level, memory, ledger, members, writes, block, e);
+        return target_finding(level, region, members, writes, block, e);
     }
     FINE
 }

@@ -7,11 +7,11 @@ use Rattle.validation.proofs.Covers.{scan_covered}
 use Rattle.validation.proofs.cover.cover_counts.Goals as goal
 
 pub record_of-b-requires : goal.record_of-b-requires
-record_of-b-requires c = rw c.cover_first.ensures (omega (arith, c.requires.1), c.requires.0)
+record_of-b-requires c = rw c.cover_first.ensures c.requires.0
 
 pub some_above_zero-requires : goal.some_above_zero-requires
-some_above_zero-requires c = (c.counter_word.ensures.below, omega (arith, c.requires.1, c.record_of-b.ensures.is, c.cover_first.ensures, c.cover_blocks.ensures))
+some_above_zero-requires c = omega (arith, c.requires.1, c.record_of-b.ensures.is, c.cover_first.ensures, c.cover_blocks.ensures)
 
 pub returns : goal.returns
-returns c = (rw (c.record_of-b.ensures.is, c.cover_first.ensures, c.cover_blocks.ensures, c.counter_word.ensures.is) at c.some_above_zero.ensures)
+returns c = (rw (c.record_of-b.ensures.is, c.cover_first.ensures, c.cover_blocks.ensures, c.field.ensures) at c.some_above_zero.ensures)
     ∙ scan_covered _ _ _ (λ (x : ℕ). above x 0) c.requires

@@ -12,7 +12,7 @@ pub mark_member-requires : goal.mark_member-requires
 mark_member-requires c =
     let pre = c.requires in
     let same = c.loop-b.invariant.1.0 in
-    (omega (arith, pre.0), pre.1, omega (arith, pre.2))
+    (omega (arith, pre.0), omega (arith, pre.1))
 
 pub loop-b-preserved : goal.loop-b-preserved
 unfolding mark_blocks

@@ -7,7 +7,7 @@ use Rattle.validation.specs.Sets.{member}
 use Rattle.validation.proofs.executed.mark_members.Given as goal
 
 abbrev pub invariant-loop-b : goal.invariant-loop-b
-invariant-loop-b l = (l.b ≤ l.n) × ((length l.ledger ≡ length l.initial.ledger) × (l.ledger ≡ mark_blocks l.initial.ledger l.b (member l.members)))
+invariant-loop-b l = (l.b ≤ l.n) × ((length l.ledger ≡ length l.initial.ledger) × (l.ledger ≡ mark_blocks l.initial.ledger l.b (member l.members.bits)))
 
 abbrev pub decreases-loop-b : goal.decreases-loop-b
 decreases-loop-b l = l.n - l.b

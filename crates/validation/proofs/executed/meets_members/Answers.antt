@@ -11,22 +11,22 @@ use Rattle.validation.specs.Sets.{member, meets_members}
 use Rattle.validation.proofs.executed.meets_members.Goals as goal
 
 pub record_of-b-requires : goal.record_of-b-requires
-record_of-b-requires c = let fit = fits_stored _ c.requires.0.0 in
+record_of-b-requires c =
     let g = told c.grants.ensures c.if-grants.true in
-    let (lo, hi) = cover_within _ _ _ (grants_place writable _ g) c.requires.0.1 in
-    rw c.cover_first.ensures (omega arith, lo)
+    let (lo, hi) = cover_within _ _ _ (grants_place writable _ g) c.requires in
+    rw c.cover_first.ensures lo
 
 pub contains_some-requires : goal.contains_some-requires
-contains_some-requires c = let fit = fits_stored _ c.requires.0.0 in
+contains_some-requires c = let fit = fits_stored _ c.args.region.now.fits in
     let g = told c.grants.ensures c.if-grants.true in
-    let (lo, hi) = cover_within _ _ _ (grants_place writable _ g) c.requires.0.1 in
-    (c.requires.1, omega (arith, c.record_of-b.ensures.is, c.cover_first.ensures, c.cover_blocks.ensures))
+    let (lo, hi) = cover_within _ _ _ (grants_place writable _ g) c.requires in
+    omega (arith, c.record_of-b.ensures.is, c.cover_first.ensures, c.cover_blocks.ensures)
 
 pub returns-then-grants : goal.returns-then-grants
 unfolding meets_members
 returns-then-grants c = let g = told c.grants.ensures c.if-grants.true in
-    let (lo, hi) = cover_within _ _ _ (grants_place writable _ g) c.requires.0.1 in
-    rw g ((rw (c.record_of-b.ensures.is, c.cover_first.ensures, c.cover_blocks.ensures) at c.contains_some.ensures) ∙ some_block_records _ _ _ (member c.args.members.now) lo)
+    let (lo, hi) = cover_within _ _ _ (grants_place writable _ g) c.requires in
+    rw g ((rw (c.record_of-b.ensures.is, c.cover_first.ensures, c.cover_blocks.ensures) at c.contains_some.ensures) ∙ some_block_records _ _ _ (member c.args.members.now.bits) lo)
 
 pub returns : goal.returns
 unfolding meets_members

@@ -1,7 +1,7 @@
 -- A block of the set is one of the region. Its mark is looked at first, and it is hashed if that does not settle it.
 use native.Mathlib.Omega.{arith}
 use Rattle.words.proofs.Bounded.{told}
-use Rattle.rules.specs.Store.{lent}
+use Rattle.ledger.specs.Regions.{store_of}
 use Rattle.rules.proofs.State.{fits_stored}
 use Rattle.validation.proofs.Hashing.{member_inside, block_out, block_marked, block_signed, block_unsigned}
 use Rattle.validation.proofs.hash.hash_block.Goals as goal
@@ -12,28 +12,25 @@ returns-then-not-contains c = block_out _ _ _ _ (told c.contains.ensures c.if-no
 pub is_marked-requires : goal.is_marked-requires
 is_marked-requires c =
     let at = c in
-    let fit = fits_stored _ at.requires.0 in
-    let l = member_inside (lent at.args.memory.now at.args.ledger.now) at.args.members.now at.requires.2 at.args.b (told c.contains.ensures c.if-not-contains.false) in
+    let fit = fits_stored _ at.args.region.now.fits in
+    let l = member_inside (store_of at.args.region.now) at.args.members.now.bits at.requires.0 at.args.b (told c.contains.ensures c.if-not-contains.false) in
     omega arith
 
 pub returns-then-is_marked : goal.returns-then-is_marked
 returns-then-is_marked c = block_marked _ _ _ _ (told c.contains.ensures c.if-not-contains.false) (told c.is_marked.ensures c.if-is_marked.true)
 
-pub base-first-requires : goal.base-first-requires
-base-first-requires c = let fit = fits_stored _ c.requires.0 in omega arith
-
 pub overflow_add-first : goal.overflow_add-first
 overflow_add-first c =
     let at = c in
-    let fit = fits_stored _ at.requires.0 in
-    let l = member_inside (lent at.args.memory.now at.args.ledger.now) at.args.members.now at.requires.2 at.args.b (told c.contains.ensures c.if-not-contains.false) in
+    let fit = fits_stored _ at.args.region.now.fits in
+    let l = member_inside (store_of at.args.region.now) at.args.members.now.bits at.requires.0 at.args.b (told c.contains.ensures c.if-not-contains.false) in
     omega (arith, c.base-first.ensures)
 
 pub is_signed_block-requires : goal.is_signed_block-requires
 is_signed_block-requires c =
     let at = c in
-    let fit = fits_stored _ at.requires.0 in
-    let l = member_inside (lent at.args.memory.now at.args.ledger.now) at.args.members.now at.requires.2 at.args.b (told c.contains.ensures c.if-not-contains.false) in
+    let fit = fits_stored _ at.args.region.now.fits in
+    let l = member_inside (store_of at.args.region.now) at.args.members.now.bits at.requires.0 at.args.b (told c.contains.ensures c.if-not-contains.false) in
     rw c.base-first.ensures (omega arith, omega arith)
 
 pub returns-then-is_signed_block : goal.returns-then-is_signed_block

@@ -5,9 +5,6 @@ use Rattle.validation.proofs.Bits.{byte_empty}
 use Rattle.validation.proofs.Hashing.{none_answer}
 use Rattle.validation.proofs.hash.hash_byte.Goals as goal
 
-pub bounds-members-i : goal.bounds-members-i
-bounds-members-i c = omega (arith, c.requires.1, c.requires.3)
-
 pub returns-then-members-i-eq0 : goal.returns-then-members-i-eq0
 returns-then-members-i-eq0 c = none_answer _ _ _ (8 * c.args.i) 8 (byte_empty _ _ c.if-members-i-eq0.true)
 

@@ -8,13 +8,13 @@ pub loop-k-init : goal.loop-k-init
 loop-k-init c = (omega arith, known_start _ _ _ _)
 
 pub overflow_mul-i : goal.overflow_mul-i
-overflow_mul-i c = omega (arith, c.requires.3)
+overflow_mul-i c = omega (arith, c.requires.1)
 
 pub overflow_add-i : goal.overflow_add-i
-overflow_add-i c = omega (arith, c.requires.3)
+overflow_add-i c = omega (arith, c.requires.1)
 
 pub hash_block-x-requires : goal.hash_block-x-requires
-hash_block-x-requires c = let pre = c.requires in (pre.0, pre.1, pre.2, omega (arith, pre.3))
+hash_block-x-requires c = let pre = c.requires in (pre.0, omega (arith, pre.1))
 
 pub returns-then-x-eq-UNKNOWN : goal.returns-then-x-eq-UNKNOWN
 returns-then-x-eq-UNKNOWN c =

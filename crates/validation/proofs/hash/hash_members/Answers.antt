@@ -8,10 +8,10 @@ pub loop-i-init : goal.loop-i-init
 loop-i-init c = (omega arith, known_start _ _ _ _)
 
 pub hash_byte-x-requires : goal.hash_byte-x-requires
-hash_byte-x-requires c = let pre = c.requires in (pre.0, pre.1, pre.2, omega arith)
+hash_byte-x-requires c = let pre = c.requires in (pre, omega arith)
 
 pub returns-then-x-eq-UNKNOWN : goal.returns-then-x-eq-UNKNOWN
-returns-then-x-eq-UNKNOWN c = unknown_region _ _ _ c.requires.2 (8 * c.loop-i.i) 8 (omega arith) c.hash_byte-x.ensures c.if-x-eq-UNKNOWN.true
+returns-then-x-eq-UNKNOWN c = unknown_region _ _ _ c.requires (8 * c.loop-i.i) 8 (omega arith) c.hash_byte-x.ensures c.if-x-eq-UNKNOWN.true
 
 pub overflow_add-n : goal.overflow_add-n
 overflow_add-n c =
@@ -23,4 +23,4 @@ pub loop-i-preserved : goal.loop-i-preserved
 loop-i-preserved c = (omega arith, known_next _ _ _ 0 (8 * c.loop-i.i) _ 8 _ (omega arith) (omega arith) c.loop-i.invariant.1 c.hash_byte-x.ensures c.if-x-eq-UNKNOWN.false)
 
 pub returns : goal.returns
-returns c = let fit = fits_stored _ c.requires.0 in known_answer _ _ _ (known_region _ _ _ c.requires.2 (8 * c.loop-i.i) (omega arith) c.loop-i.invariant.1)
+returns c = let fit = fits_stored _ c.args.region.now.fits in known_answer _ _ _ (known_region _ _ _ c.requires (8 * c.loop-i.i) (omega arith) c.loop-i.invariant.1)

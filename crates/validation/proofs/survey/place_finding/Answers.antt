@@ -8,9 +8,6 @@ pub returns-then-is_unaccepted : goal.returns-then-is_unaccepted
 unfolding finding
 returns-then-is_unaccepted c = rw (told c.is_unaccepted.ensures c.if-is_unaccepted.true) refl
 
-pub is_astray-requires : goal.is_astray-requires
-is_astray-requires c = c.requires
-
 pub returns-then-is_astray : goal.returns-then-is_astray
 unfolding finding
 returns-then-is_astray c = rw (told c.is_unaccepted.ensures c.if-is_unaccepted.false, told c.is_astray.ensures c.if-is_astray.true) refl

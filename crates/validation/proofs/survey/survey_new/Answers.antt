@@ -4,35 +4,27 @@ use Rattle.validation.proofs.Surveys.{new_start, new_left, new_next, greater_fir
 use Rattle.validation.proofs.survey.survey_new.Goals as goal
 
 pub loop-i-init : goal.loop-i-init
-loop-i-init c = (omega arith, refl, new_start _ _ _ 0 _, λ z. gathered_none _ _ _ _ c.requires.whole_set.1)
+loop-i-init c = (omega arith, new_start _ _ _ 0 _, λ z. gathered_none _ _ _ _ c.requires.empty)
 
 pub overflow_add-j : goal.overflow_add-j
-overflow_add-j c = omega (arith, c.requires.fits.1)
+overflow_add-j c = omega (arith, c.requires.holds_words)
 
 pub entry_at-e-requires : goal.entry_at-e-requires
-entry_at-e-requires c = omega (arith, c.requires.fits.1)
-
-pub found_with-found-requires : goal.found_with-found-requires
-found_with-found-requires c =
-    let pre = c.requires in
-    (pre.fits.0, omega (arith, pre.whole_set.0, c.loop-i.invariant.1))
+entry_at-e-requires c = omega (arith, c.requires.holds_words)
 
 pub returns-then-found-eq-UNACCEPTED : goal.returns-then-found-eq-UNACCEPTED
 returns-then-found-eq-UNACCEPTED c =
     let at = c.loop-i in
-    let next = new_next _ _ _ at.i _ at.i at.invariant.2 (rw c.entry_at-e.ensures at c.found_with-found.ensures.value) in
+    let next = new_next _ _ _ at.i _ at.i at.invariant.1 (rw c.entry_at-e.ensures at c.found_with-found.ensures.value) in
     record { value = new_left _ _ _ _ _ at.i (omega arith) (sym next ∙ c.if-found-eq-UNACCEPTED.true); all_gathered = λ z. let f : ⊥ = omega arith in absurd f }
 
 pub loop-i-preserved : goal.loop-i-preserved
 loop-i-preserved c =
     let at = c.loop-i in
     let one = rw c.entry_at-e.ensures at c.found_with-found.ensures in
-    (omega arith, omega arith, new_next _ _ _ at.i _ at.i at.invariant.2 one.value, λ z. gathered_more _ at.i _ _ _ (at.invariant.3 (greater_first at.found _ 2 (rw one.value at z))) (one.gathered z))
-
-pub shape_of-members : goal.shape_of-members
-shape_of-members c = c.loop-i.invariant.1
+    (omega arith, new_next _ _ _ at.i _ at.i at.invariant.1 one.value, λ z. gathered_more _ at.i _ _ _ (at.invariant.2 (greater_first at.found _ 2 (rw one.value at z))) (one.gathered z))
 
 pub returns : goal.returns
 returns c =
     let e : c.loop-i.i ≡ c.args.m = omega arith in
-    record { value = rw e at c.loop-i.invariant.2; all_gathered = rw e at c.loop-i.invariant.3 }
+    record { value = rw e at c.loop-i.invariant.1; all_gathered = rw e at c.loop-i.invariant.2 }

@@ -12,9 +12,6 @@ overflow_add-j c = omega (arith, c.requires.0)
 pub entry_at-requires : goal.entry_at-requires
 entry_at-requires c = omega (arith, c.requires.0)
 
-pub place_finding-one-requires : goal.place_finding-one-requires
-place_finding-one-requires c = c.requires.1
-
 pub returns-then-one-eq-UNACCEPTED : goal.returns-then-one-eq-UNACCEPTED
 returns-then-one-eq-UNACCEPTED c = old_left _ _ _ _ c.loop-i.i (omega arith) (rw c.entry_at.ensures at c.place_finding-one.ensures) c.if-one-eq-UNACCEPTED.true
 

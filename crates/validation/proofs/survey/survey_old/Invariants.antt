@@ -2,12 +2,14 @@
 use mathlib.Core.Path.{◌≡◌}
 use Prim.Native.Nat.{◌-◌, ◌≤◌}
 use Rattle.entries.specs.Meaning.{level_of}
+use Rattle.rules.specs.Store.{base, blocks}
+use Rattle.ledger.specs.Regions.{store_of}
 use Rattle.validation.specs.Findings.{old_finding}
 use Rattle.validation.specs.Tests.{entry_from}
 use Rattle.validation.proofs.survey.survey_old.Given as goal
 
 abbrev pub invariant-loop-i : goal.invariant-loop-i
-invariant-loop-i l = (l.i ≤ l.m) × (l.found ≡ old_finding l.first l.n l.i (entry_from (level_of l.level) l.memory l.j))
+invariant-loop-i l = (l.i ≤ l.m) × (l.found ≡ old_finding (base (store_of l.region)) (blocks (store_of l.region)) l.i (entry_from (level_of l.level) l.region.memory.now l.j))
 
 abbrev pub decreases-loop-i : goal.decreases-loop-i
 decreases-loop-i l = l.m - l.i
