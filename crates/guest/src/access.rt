@@ -111,7 +111,8 @@ fn tell(registers: &mut [u8; REGISTERS_BYTES], access: Access, stop: Stop, addre
     );
 }
 
-// Where in memory the byte of an access lies, or the refusal, of which the registers tell if it is a fault.
+// Where in memory the byte of an access lies, or the refusal, of which the registers tell if it is a fault. The buffers stand apart here and below, as C
+// lends them: a write changes what a read and a fetch only look at.
 fn judge(
     memory: &[u8],
     ledger: &[u8],
