@@ -6,7 +6,7 @@ ghost use Rattle.validation.specs.Sets.{EmptySet, is_set, member};
 
 use ledger::layout::MOST_BLOCKS;
 
-const BYTE_BITS: usize = 8;
+pub const BYTE_BITS: usize = 8;
 
 // The bytes of a set for any region.
 pub const SET_BYTES: usize = MOST_BLOCKS / BYTE_BITS;

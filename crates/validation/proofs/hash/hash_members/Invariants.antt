@@ -6,6 +6,3 @@ use Rattle.validation.proofs.hash.hash_members.Given as goal
 
 abbrev pub invariant-loop-i : goal.invariant-loop-i
 invariant-loop-i l = (l.i ≤ 512) × Known l.golden (store_of l.region) l.members.bits 0 (8 * l.i) l.n
-
-abbrev pub decreases-loop-i : goal.decreases-loop-i
-decreases-loop-i l = 512 - l.i

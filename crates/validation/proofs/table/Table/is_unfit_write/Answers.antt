@@ -3,7 +3,7 @@ use mathlib.Core.Path.{refl, sym, ◌∙◌}
 use Rattle.words.proofs.Bounded.{told}
 use Rattle.rules.specs.Create.{unfit_write}
 use Rattle.validation.proofs.Covers.{unfit_write_is}
-use Rattle.validation.proofs.target.is_unfit_write.Goals as goal
+use Rattle.validation.proofs.table.Table.is_unfit_write.Goals as goal
 
 pub returns-then-not-grants : goal.returns-then-not-grants
 unfolding unfit_write
