@@ -6,3 +6,4 @@ pub mod Judge
 pub mod Marking
 mod MemoryKinds
 pub mod Records
+pub mod Regions

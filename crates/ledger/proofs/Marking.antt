@@ -11,7 +11,7 @@ use borrow.Author.Tests.{le-leb, lt-leb, leb-true}
 use Rattle.rules.specs.Signature.{unknown}
 use Rattle.words.specs.Bounded.{above, among, sum, num, count, any, neqb}
 use Rattle.words.proofs.Bounded.{among_in, among_out, among_within, both_ways, any_avoids, any_none}
-use Rattle.words.proofs.Sums.{sum_same, sum_window, count_most, count_none}
+use Rattle.words.proofs.Sums.{sum_same, sum_window, count_none}
 use Rattle.entries.specs.Entries.{Entry}
 use Rattle.rules.specs.Store.{Store, blocks, base, record_word, put_record_word, executable, mark_word, mark_value, marked, clear_mark, clear_marks, mark_blocks, misfit_stored, some_block}
 use Rattle.rules.specs.Tables.{grants, executed}
@@ -19,11 +19,6 @@ use Rattle.rules.specs.General.{hashed_blocks}
 use Rattle.rules.proofs.State.{within}
 use Rattle.ledger.specs.Counters.{Spreads}
 use Rattle.ledger.specs.Needs.{record_of, GrantsInside}
-
--- one number more
-pub count_next : (p : ℕ → Bool) (i : ℕ) → count i p + num (p i) ≤ i + 1
-unfolding sum
-count_next p i = let most = count_most p (suc i) in omega arith
 
 module _ (led : List ℕ) where
   -- one block more

@@ -1,5 +1,6 @@
 -- The answers of the calls, as values of the code (RULES: calls).
 use Rattle.std.specs.Prelude.{ℕ, Result, Ok, Err}
+use Rattle.std.specs.Result.{result_unwrap_or}
 use Rattle.ledger.specs.declared.refusals.Refusal as refusals
 use Rattle.ledger.specs.declared.refusals.Refusal.TheVariants.{Misfit, OutsideRegion, Misaligned, BeyondTable, WrongType, InUse, ExecutableHolder, WrongEntry, UnlawfulRights, UnfitTarget, Clash, Unsigned, Overrun, NoActiveTable, FaultEntry, RightLacking, BrokenWalk}
 
@@ -30,5 +31,4 @@ answered (Err r) = number_of r
 
 -- calls 5, calls 8: the byte or the number that a call gives: with a refusal it is 0
 abbrev pub given : Result ℕ refusals.Refusal → ℕ
-given (Ok n) = n
-given (Err r) = 0
+given r = result_unwrap_or r 0

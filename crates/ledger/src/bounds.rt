@@ -15,85 +15,80 @@ use crate::counters::{Change, Counter, grants};
 use crate::layout::{COUNTER_LIMIT, Field, record_of, record_word};
 use crate::region::Region;
 use entries::entry::Entry;
+use words::some_below;
 
-fn is_beyond(x: u32, least: u32, most: u32) -> bool
-    ensures { result ≡ beyond least most x }
-{
-    x < least || most < x
+// The least and the greatest value that a counter may have.
+#[derive(Clone, Copy)]
+pub struct Bounds {
+    pub least: u32,
+    pub most: u32,
 }
 
-// The field is below least or above most in some of the m records from block b on.
-fn some_beyond(ledger: &[u8], field: Field, b: usize, m: usize, least: u32, most: u32) -> bool
-    requires { InLedger ledger.now (b + m) }
-    ensures { result ≡ any m (λ i. beyond least most (record_word ledger.now (field_word field) (b + i))) }
-{
-    for i in 0..m {
-        if is_beyond(record_word(ledger, field, b + i), least, most) {
-            return true;
+impl Bounds {
+    // The values from which a counter can change by one without an overrun.
+    pub fn before(change: Change) -> Bounds
+        ensures least { result.least ≡ least_before (change_of change) }
+        ensures most { result.most ≡ most_before (change_of change) }
+    {
+        match change {
+            Change::Added => Bounds {
+                least: 0,
+                most: COUNTER_LIMIT - 1,
+            },
+            Change::Removed => Bounds {
+                least: 1,
+                most: COUNTER_LIMIT + 1,
+            },
         }
     }
-    false
+
+    fn exclude(self, x: u32) -> bool
+        ensures { result ≡ beyond self.least self.most x }
+    {
+        x < self.least || self.most < x
+    }
 }
 
-// A counter that the entry grants is, on some of the m blocks from p on.
-fn counter_beyond(
-    ledger: &[u8],
-    counter: Counter,
-    e: Entry,
-    p: u32,
-    m: u32,
-    least: u32,
-    most: u32,
-) -> bool
+// The bounds exclude the field in some of the m records from block b on.
+fn some_beyond(ledger: &[u8], field: Field, b: usize, m: usize, bounds: Bounds) -> bool
+    requires { InLedger ledger.now (b + m) }
+    ensures { result ≡ any m (λ i. beyond bounds.least bounds.most (record_word ledger.now (field_word field) (b + i))) }
+{
+    some_below(m, |i| bounds.exclude(record_word(ledger, field, b + i)))
+}
+
+// They exclude a counter that the entry grants, on some of the m blocks from p on.
+fn counter_beyond(ledger: &[u8], counter: Counter, e: Entry, p: u32, m: u32, bounds: Bounds) -> bool
     requires { GrantsRecorded ledger.now (meaning e) p m }
-    ensures { result ≡ counter_beyond least most ledger.now (counter_of counter) (meaning e) p m }
+    ensures { result ≡ counter_beyond bounds.least bounds.most ledger.now (counter_of counter) (meaning e) p m }
 {
     if !grants(counter, e) {
         return false;
     }
     let b = record_of(ledger, p);
-    some_beyond(ledger, counter.field(), b, m as usize, least, most)
+    some_beyond(ledger, counter.field(), b, m as usize, bounds)
 }
 
-// Some counter that it grants is.
-fn blocks_beyond(ledger: &[u8], e: Entry, p: u32, m: u32, least: u32, most: u32) -> bool
+// Some counter that it grants.
+fn blocks_beyond(ledger: &[u8], e: Entry, p: u32, m: u32, bounds: Bounds) -> bool
     requires { GrantsRecorded ledger.now (meaning e) p m }
-    ensures { result ≡ blocks_beyond least most ledger.now (meaning e) p m }
+    ensures { result ≡ blocks_beyond bounds.least bounds.most ledger.now (meaning e) p m }
 {
-    if counter_beyond(ledger, Counter::Writable, e, p, m, least, most) {
+    if counter_beyond(ledger, Counter::Writable, e, p, m, bounds) {
         return true;
     }
-    if counter_beyond(ledger, Counter::Executable, e, p, m, least, most) {
+    if counter_beyond(ledger, Counter::Executable, e, p, m, bounds) {
         return true;
     }
-    counter_beyond(ledger, Counter::Linked, e, p, m, least, most)
+    counter_beyond(ledger, Counter::Linked, e, p, m, bounds)
 }
 
-// Some counter that it grants is, on the blocks that it covers.
-pub fn entry_beyond(ledger: &[u8], e: Entry, least: u32, most: u32) -> bool
+// Some counter that it grants, on the blocks that it covers.
+pub fn entry_beyond(ledger: &[u8], e: Entry, bounds: Bounds) -> bool
     requires { EntryRecorded ledger.now (meaning e) }
-    ensures { result ≡ entry_beyond least most ledger.now (meaning e) }
+    ensures { result ≡ entry_beyond bounds.least bounds.most ledger.now (meaning e) }
 {
-    blocks_beyond(ledger, e, e.cover_first(), e.cover_blocks(), least, most)
-}
-
-// The least and the greatest value of a counter that can change by one without an overrun.
-pub fn least_before(change: Change) -> u32
-    ensures { result ≡ least_before (change_of change) }
-{
-    match change {
-        Change::Added => 0,
-        Change::Removed => 1,
-    }
-}
-
-fn most_before(change: Change) -> u32
-    ensures { result ≡ most_before (change_of change) }
-{
-    match change {
-        Change::Added => COUNTER_LIMIT - 1,
-        Change::Removed => COUNTER_LIMIT + 1,
-    }
+    blocks_beyond(ledger, e, e.cover_first(), e.cover_blocks(), bounds)
 }
 
 impl Region<'_> {
@@ -102,13 +97,6 @@ impl Region<'_> {
         requires { GrantsInside self.now.memory.now self.now.ledger.now (meaning e) p m }
         ensures { (n : ℕ) (x : ℕ → specified.Entry) → Spreads n x (meaning e) p m → result ≡ some_overrun (change_of change) (store_of self.now) n x }
     {
-        blocks_beyond(
-            self.ledger,
-            e,
-            p,
-            m,
-            least_before(change),
-            most_before(change),
-        )
+        blocks_beyond(self.ledger, e, p, m, Bounds::before(change))
     }
 }

@@ -1,5 +1,5 @@
 // The eight memory kinds of the ledger (ledger 11, ledger 12).
-ghost use Rattle.std.specs.Prelude.{◌||◌, ◌≡◌, ◌<◌, ◌≤◌, length};
+ghost use Rattle.std.specs.Prelude.{◌≡◌, ◌<◌, ◌≤◌, length};
 ghost use Rattle.words.specs.Lists.{put_list};
 ghost use Rattle.rules.specs.Store.{kind_at, kind_count, kinds_bytes, kinds_of, kinds_place, ledger_head_bytes, unlawful_kinds};
 ghost use Rattle.ledger.specs.Pieces.{unlawful_pair};
@@ -16,12 +16,6 @@ fn is_unlawful_pair(w: u32) -> bool
     words::bits(w, 7, 9) != 0 || words::bits(w, 23, 9) != 0
 }
 
-fn either(a: bool, b: bool) -> bool
-    ensures { result ≡ (a || b) }
-{
-    a || b
-}
-
 // One of eight kinds is not lawful. All are looked at, two at a time: that takes one branch, and lawful kinds are what there is.
 pub fn some_unlawful(kinds: &[u8]) -> bool
     requires { length kinds.now ≡ kinds_bytes }
@@ -29,8 +23,7 @@ pub fn some_unlawful(kinds: &[u8]) -> bool
 {
     let mut found = false;
     for i in 0..KINDS_WORDS {
-        let unlawful = is_unlawful_pair(words::word(kinds, WORD_BYTES * i));
-        found = either(found, unlawful);
+        found |= is_unlawful_pair(words::word(kinds, WORD_BYTES * i));
     }
     found
 }

@@ -59,26 +59,20 @@ fn mark_blocks(ledger: &mut [u8], b: usize, m: usize)
 }
 
 // 1 for a block that is not marked.
+#[tactic(auto, unfolding(words::specs::Bounded::num))]
 fn unmarked(ledger: &[u8], b: usize) -> u32
     requires { InLedger ledger.now (b + 1) }
     ensures { result ≡ num (not (eqb (record_word ledger.now mark_word b) mark_value)) }
 {
-    if is_marked(ledger, b) {
-        return 0;
-    }
-    1
+    u32::from(!is_marked(ledger, b))
 }
 
-// How many of the m blocks from b on are not.
+// How many of the m blocks from b on are not marked.
 fn count_unmarked(ledger: &[u8], b: usize, m: usize) -> u32
     requires { InLedger ledger.now (b + m) × (m ≤ most_blocks) }
     ensures { result ≡ count m (λ i. not (eqb (record_word ledger.now mark_word (b + i)) mark_value)) }
 {
-    let mut n = 0;
-    for i in 0..m {
-        n += unmarked(ledger, b + i);
-    }
-    n
+    (0..m).map(|i| unmarked(ledger, b + i)).sum()
 }
 
 // Marks the m blocks from p on, if the entry lets them execute. Of the memory only the number of blocks matters.

@@ -43,11 +43,11 @@ impl From<Refusal> for u32 {
 const ACCEPTED: u32 = 0;
 
 // The number with which a call answers.
-pub fn answer(outcome: Result<(), Refusal>) -> u32
+pub fn answer<T: Drop>(outcome: Result<T, Refusal>) -> u32
     ensures { result ≡ answered outcome }
 {
     match outcome {
-        Ok(()) => ACCEPTED,
+        Ok(_) => ACCEPTED,
         Err(refusal) => u32::from(refusal),
     }
 }

@@ -11,6 +11,7 @@ use crate::layout::{BLOCK_BYTES, Field, MARKED, record_word};
 use crate::marks::is_marked;
 use crate::region::Region;
 use signature::golden::is_signed_at;
+use words::some_below;
 
 // The field differs from v in some of the m records from block b on. Most often it is one record, which is looked at without the loop.
 pub fn some_differs(ledger: &[u8], field: Field, b: usize, m: usize, v: u32) -> bool
@@ -20,12 +21,7 @@ pub fn some_differs(ledger: &[u8], field: Field, b: usize, m: usize, v: u32) -> 
     if m == 1 {
         return record_word(ledger, field, b) != v;
     }
-    for i in 0..m {
-        if record_word(ledger, field, b + i) != v {
-            return true;
-        }
-    }
-    false
+    some_below(m, |i| record_word(ledger, field, b + i) != v)
 }
 
 // The field is above 0 in some of the m records from block b on.
@@ -66,11 +62,6 @@ impl Region<'_> {
         if !some_differs(self.ledger, Field::Mark, b, m as usize, MARKED) {
             return false;
         }
-        for i in 0..m {
-            if self.is_unknown(golden, p + i) {
-                return true;
-            }
-        }
-        false
+        some_below(m as usize, |i| self.is_unknown(golden, p + i as u32))
     }
 }

@@ -3,6 +3,7 @@
 #![tactic(auto)]
 
 ghost use Rattle.std.specs.Prelude.{◌≡◌};
+ghost use Rattle.std.specs.Result.{result_unwrap_or};
 ghost use Rattle.rules.specs.Begin.{begin_outcome, cached_kinds};
 ghost use Rattle.entries.specs.Entries.{l1, l2};
 ghost use Rattle.rules.specs.Create.{create_outcome};
@@ -16,17 +17,28 @@ ghost use Rattle.rules.specs.Store.{Store, lent};
 ghost use Rattle.rules.specs.Switch.{switch_outcome};
 ghost use Rattle.rules.specs.Tables.{larges, pages, sections};
 ghost use Rattle.rules.specs.Unmap.{unmap_outcome};
+ghost use Rattle.ledger.specs.Refusals.{answered};
 
 use entries::entry::Level;
+use ledger::refusals::{Refusal, answer};
 use mapping::form::Form;
 use mapping::request::{FIRST_KIND, Request};
+
+// The answer of a call, whose number or byte goes to the place that it was lent; nothing is 0 there, where it is refused.
+fn give<T: Copy>(outcome: Result<T, Refusal>, nothing: T, place: &mut T) -> u32
+    ensures value { result ≡ answered outcome }
+    ensures place_after { place.new ≡ result_unwrap_or outcome nothing }
+{
+    *place = outcome.unwrap_or(nothing);
+    answer(outcome)
+}
 
 // Begin: a region starts at this block, and all its memory kinds are B and C.
 pub fn pagemon_begin(memory: &[u8], ledger: &mut [u8], first: u32) -> u32
     ensures value { result ≡ (begin_outcome (lent memory.now ledger.old) cached_kinds first).answer }
     ensures ledger_after { lent memory.now ledger.new ≡ (begin_outcome (lent memory.now ledger.old) cached_kinds first).after }
 {
-    tables::begin::begin(memory, ledger, first)
+    answer(tables::begin::begin(memory, ledger, first))
 }
 
 // Begin with kinds: a region starts at this block, with these eight memory kinds.
@@ -34,7 +46,7 @@ pub fn pagemon_begin_kinds(memory: &[u8], ledger: &mut [u8], kinds: &[u8], first
     ensures value { result ≡ (begin_outcome (lent memory.now ledger.old) kinds.now first).answer }
     ensures ledger_after { lent memory.now ledger.new ≡ (begin_outcome (lent memory.now ledger.old) kinds.now first).after }
 {
-    tables::begin::begin_kinds(memory, ledger, kinds, first)
+    answer(tables::begin::begin_kinds(memory, ledger, kinds, first))
 }
 
 // Create L1: the four blocks from a block become an L1 table, with the entries that its bytes hold.
@@ -49,7 +61,7 @@ pub fn pagemon_create_l1(
     ensures hashed_after { hashed.new ≡ (create_outcome l1 golden.now (lent memory.now ledger.old) block).hashed }
     ensures ledger_after { lent memory.now ledger.new ≡ (create_outcome l1 golden.now (lent memory.now ledger.old) block).after }
 {
-    tables::create::create(Level::L1, memory, ledger, golden, block, hashed)
+    give(tables::create::create(Level::L1, memory, ledger, golden, block), 0, hashed)
 }
 
 // Create L2: a block becomes an L2 block, with the entries that its bytes hold.
@@ -64,7 +76,7 @@ pub fn pagemon_create_l2(
     ensures hashed_after { hashed.new ≡ (create_outcome l2 golden.now (lent memory.now ledger.old) block).hashed }
     ensures ledger_after { lent memory.now ledger.new ≡ (create_outcome l2 golden.now (lent memory.now ledger.old) block).after }
 {
-    tables::create::create(Level::L2, memory, ledger, golden, block, hashed)
+    give(tables::create::create(Level::L2, memory, ledger, golden, block), 0, hashed)
 }
 
 // Free L1: the table's blocks become data.
@@ -72,7 +84,7 @@ pub fn pagemon_free_l1(memory: &[u8], ledger: &mut [u8], block: u32) -> u32
     ensures value { result ≡ (free_outcome l1 (lent memory.now ledger.old) block).answer }
     ensures ledger_after { lent memory.now ledger.new ≡ (free_outcome l1 (lent memory.now ledger.old) block).after }
 {
-    tables::free::free(Level::L1, memory, ledger, block)
+    answer(tables::free::free(Level::L1, memory, ledger, block))
 }
 
 // Free L2: the block becomes data.
@@ -80,7 +92,7 @@ pub fn pagemon_free_l2(memory: &[u8], ledger: &mut [u8], block: u32) -> u32
     ensures value { result ≡ (free_outcome l2 (lent memory.now ledger.old) block).answer }
     ensures ledger_after { lent memory.now ledger.new ≡ (free_outcome l2 (lent memory.now ledger.old) block).after }
 {
-    tables::free::free(Level::L2, memory, ledger, block)
+    answer(tables::free::free(Level::L2, memory, ledger, block))
 }
 
 // Map L1 with a kind: a section of 256 blocks with these rights and the memory kind of this number, at an index of an L1 table.
@@ -106,7 +118,7 @@ pub fn pagemon_map_l1_kind(
         rights,
         kind,
     };
-    mapping::map::map(Form::Sections, memory, ledger, golden, request, hashed)
+    give(mapping::map::map(Form::Sections, memory, ledger, golden, request), 0, hashed)
 }
 
 // Map L1: the same with kind 0.
@@ -152,7 +164,7 @@ pub fn pagemon_map_l2_kind(
         rights,
         kind,
     };
-    mapping::map::map(Form::Pages, memory, ledger, golden, request, hashed)
+    give(mapping::map::map(Form::Pages, memory, ledger, golden, request), 0, hashed)
 }
 
 // Map L2: the same with kind 0.
@@ -198,7 +210,7 @@ pub fn pagemon_map_large_kind(
         rights,
         kind,
     };
-    mapping::map::map(Form::Larges, memory, ledger, golden, request, hashed)
+    give(mapping::map::map(Form::Larges, memory, ledger, golden, request), 0, hashed)
 }
 
 // Map large: the same with kind 0.
@@ -233,7 +245,7 @@ pub fn pagemon_link(
     ensures value { result ≡ (link_outcome (lent memory.old ledger.old) block index target table).answer }
     ensures ledger_after { lent memory.new ledger.new ≡ (link_outcome (lent memory.old ledger.old) block index target table).after }
 {
-    mapping::link::link(memory, ledger, block, index, target, table)
+    answer(mapping::link::link(memory, ledger, block, index, target, table))
 }
 
 // Unmap L1: the entry at an index of an L1 table becomes a fault.
@@ -241,7 +253,7 @@ pub fn pagemon_unmap_l1(memory: &mut [u8], ledger: &mut [u8], block: u32, index:
     ensures value { result ≡ (unmap_outcome sections (lent memory.old ledger.old) block index).answer }
     ensures ledger_after { lent memory.new ledger.new ≡ (unmap_outcome sections (lent memory.old ledger.old) block index).after }
 {
-    mapping::unmap::unmap(Form::Sections, memory, ledger, block, index)
+    answer(mapping::unmap::unmap(Form::Sections, memory, ledger, block, index))
 }
 
 // Unmap L2: the entry at an index of an L2 block becomes a fault.
@@ -249,7 +261,7 @@ pub fn pagemon_unmap_l2(memory: &mut [u8], ledger: &mut [u8], block: u32, index:
     ensures value { result ≡ (unmap_outcome pages (lent memory.old ledger.old) block index).answer }
     ensures ledger_after { lent memory.new ledger.new ≡ (unmap_outcome pages (lent memory.old ledger.old) block index).after }
 {
-    mapping::unmap::unmap(Form::Pages, memory, ledger, block, index)
+    answer(mapping::unmap::unmap(Form::Pages, memory, ledger, block, index))
 }
 
 // Unmap large: the sixteen entries of the large page at an index of an L2 block become faults.
@@ -257,7 +269,7 @@ pub fn pagemon_unmap_large(memory: &mut [u8], ledger: &mut [u8], block: u32, ind
     ensures value { result ≡ (unmap_outcome larges (lent memory.old ledger.old) block index).answer }
     ensures ledger_after { lent memory.new ledger.new ≡ (unmap_outcome larges (lent memory.old ledger.old) block index).after }
 {
-    mapping::unmap::unmap(Form::Larges, memory, ledger, block, index)
+    answer(mapping::unmap::unmap(Form::Larges, memory, ledger, block, index))
 }
 
 // Switch: the L1 table at a block is put in use.
@@ -265,7 +277,7 @@ pub fn pagemon_switch(memory: &[u8], ledger: &mut [u8], block: u32) -> u32
     ensures value { result ≡ (switch_outcome (lent memory.now ledger.old) block).answer }
     ensures ledger_after { lent memory.now ledger.new ≡ (switch_outcome (lent memory.now ledger.old) block).after }
 {
-    mapping::switch::switch(memory, ledger, block)
+    answer(mapping::switch::switch(memory, ledger, block))
 }
 
 // The guest reads the byte at an address; the registers tell of a fault.
@@ -281,7 +293,7 @@ pub fn pagemon_read(
     ensures ledger_value { lent memory.now ledger.now ≡ (guest_outcome reads (lent memory.now ledger.now) registers.old address).after }
     ensures registers_after { registers.new ≡ guest_registers reads (lent memory.now ledger.now) registers.old address }
 {
-    guest::access::read(memory, ledger, registers, address, byte)
+    give(guest::access::read(memory, ledger, registers, address), 0, byte)
 }
 
 // The guest fetches the byte at an address, to execute it.
@@ -297,7 +309,7 @@ pub fn pagemon_fetch(
     ensures ledger_value { lent memory.now ledger.now ≡ (guest_outcome fetches (lent memory.now ledger.now) registers.old address).after }
     ensures registers_after { registers.new ≡ guest_registers fetches (lent memory.now ledger.now) registers.old address }
 {
-    guest::access::fetch(memory, ledger, registers, address, byte)
+    give(guest::access::fetch(memory, ledger, registers, address), 0, byte)
 }
 
 // The guest writes a byte at an address.
@@ -312,7 +324,7 @@ pub fn pagemon_write(
     ensures ledger_after { lent memory.new ledger.new ≡ (guest_outcome (writes byte) (lent memory.old ledger.old) registers.old address).after }
     ensures registers_after { registers.new ≡ guest_registers (writes byte) (lent memory.old ledger.old) registers.old address }
 {
-    guest::access::write(memory, ledger, registers, address, byte)
+    answer(guest::access::write(memory, ledger, registers, address, byte))
 }
 
 // Acknowledge: the pending byte of the fault registers is given and cleared. It is lent no store, so that its promise is the same for every one.
@@ -321,7 +333,7 @@ pub fn pagemon_acknowledge(registers: &mut [u8], pending: &mut u8) -> u32
     ensures pending_after { (s : Store) → pending.new ≡ (acknowledge_outcome s registers.old).byte }
     ensures registers_after { registers.new ≡ acknowledge_registers registers.old }
 {
-    guest::registers::acknowledge(registers, pending)
+    give(guest::registers::acknowledge(registers), 0, pending)
 }
 
 // Forget: the marks of adjacent blocks are cleared.
@@ -329,5 +341,5 @@ pub fn pagemon_forget(memory: &[u8], ledger: &mut [u8], block: u32, count: u32) 
     ensures value { result ≡ (forget_outcome (lent memory.now ledger.old) block count).answer }
     ensures ledger_after { lent memory.now ledger.new ≡ (forget_outcome (lent memory.now ledger.old) block count).after }
 {
-    tables::forget::forget(memory, ledger, block, count)
+    answer(tables::forget::forget(memory, ledger, block, count))
 }

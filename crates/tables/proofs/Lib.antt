@@ -1,4 +1,5 @@
 pub mod Admitting
+pub mod Changing
 pub mod Clearing
 pub mod Counting
 pub mod TableRecords

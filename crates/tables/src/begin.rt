@@ -5,14 +5,14 @@ ghost use Rattle.rules.specs.Refusals.{answer_of};
 ghost use Rattle.rules.specs.Store.{clear_mark, clear_marks, lent, put_counters, put_record_word, recount, retype, type_word};
 ghost use Rattle.rules.specs.Tables.{type_d};
 ghost use Rattle.ledger.specs.Needs.{InLedger};
+ghost use Rattle.ledger.specs.Refusals.{answered};
 
 use ledger::kinds::{put_kinds, some_unlawful};
 use ledger::layout::{
-    EXECUTABLE, KINDS_BYTES, LINKED, NO_TABLE, TYPE, TYPE_D, WRITABLE, put_active, put_base,
-    put_record_word,
+    BlockType, Field, KINDS_BYTES, NO_TABLE, put_active, put_base, put_record_word,
 };
 use ledger::marks::clear_mark;
-use ledger::refusals::{ACCEPTED, MISFIT};
+use ledger::refusals::Refusal;
 use ledger::region::{blocks, is_misfit};
 
 // The record of block b has type D, no counts and no mark.
@@ -20,10 +20,10 @@ fn clear_record(ledger: &mut [u8], b: usize)
     requires { InLedger ledger.old (b + 1) }
     ensures { ledger.new ≡ clear_mark (put_counters (put_record_word ledger.old type_word b type_d) b (λ c. 0)) b }
 {
-    put_record_word(ledger, TYPE, b, TYPE_D);
-    put_record_word(ledger, WRITABLE, b, 0);
-    put_record_word(ledger, EXECUTABLE, b, 0);
-    put_record_word(ledger, LINKED, b, 0);
+    put_record_word(ledger, Field::Type, b, BlockType::Data.code());
+    put_record_word(ledger, Field::Writable, b, 0);
+    put_record_word(ledger, Field::Executable, b, 0);
+    put_record_word(ledger, Field::Linked, b, 0);
     clear_mark(ledger, b);
 }
 
@@ -38,42 +38,44 @@ fn clear_records(ledger: &mut [u8], n: usize)
 }
 
 // The lengths, this number of the first block, or these kinds are not lawful (begin 1).
-fn begin_refusal(memory: &[u8], ledger: &[u8], kinds: &[u8], first: u32) -> u32
-    ensures { result ≡ answer_of (begin_refusals (lent memory.now ledger.now) kinds.now first) }
+fn check_begin(memory: &[u8], ledger: &[u8], kinds: &[u8], first: u32) -> Result<(), Refusal>
+    ensures { answered result ≡ answer_of (begin_refusals (lent memory.now ledger.now) kinds.now first) }
 {
     if is_misfit(memory, ledger, first) {
-        return MISFIT;
+        return Err(Refusal::Misfit);
     }
     if kinds.len() != KINDS_BYTES {
-        return MISFIT;
+        return Err(Refusal::Misfit);
     }
     if some_unlawful(kinds) {
-        return MISFIT;
+        return Err(Refusal::Misfit);
     }
-    ACCEPTED
+    Ok(())
 }
 
 // A region starts at this block, with these memory kinds.
-pub fn begin_kinds(memory: &[u8], ledger: &mut [u8], kinds: &[u8], first: u32) -> u32
-    ensures value { result ≡ (begin_outcome (lent memory.now ledger.old) kinds.now first).answer }
+pub fn begin_kinds(
+    memory: &[u8],
+    ledger: &mut [u8],
+    kinds: &[u8],
+    first: u32,
+) -> Result<(), Refusal>
+    ensures value { answered result ≡ (begin_outcome (lent memory.now ledger.old) kinds.now first).answer }
     ensures ledger_after { lent memory.now ledger.new ≡ (begin_outcome (lent memory.now ledger.old) kinds.now first).after }
 {
-    let refusal = begin_refusal(memory, ledger, kinds, first);
-    if refusal != ACCEPTED {
-        return refusal;
-    }
+    check_begin(memory, ledger, kinds, first)?;
     clear_records(ledger, blocks(memory));
     put_kinds(ledger, kinds);
     put_base(ledger, first);
     put_active(ledger, NO_TABLE);
-    ACCEPTED
+    Ok(())
 }
 
 // The kinds of a begin that names none: B and C, eight times (begin kinds).
 const CACHED_KINDS: [u8; 16] = *b"\x03\0\x03\0\x03\0\x03\0\x03\0\x03\0\x03\0\x03\0";
 
-pub fn begin(memory: &[u8], ledger: &mut [u8], first: u32) -> u32
-    ensures value { result ≡ (begin_outcome (lent memory.now ledger.old) cached_kinds first).answer }
+pub fn begin(memory: &[u8], ledger: &mut [u8], first: u32) -> Result<(), Refusal>
+    ensures value { answered result ≡ (begin_outcome (lent memory.now ledger.old) cached_kinds first).answer }
     ensures ledger_after { lent memory.now ledger.new ≡ (begin_outcome (lent memory.now ledger.old) cached_kinds first).after }
 {
     begin_kinds(memory, ledger, &CACHED_KINDS, first)

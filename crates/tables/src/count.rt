@@ -1,14 +1,16 @@
 // The entries of a table are added to the counters, or taken away from them, one by one.
 // Refusal 13 shows on the way or at the end, and what was counted is then taken back (calls 3).
-ghost use Rattle.std.specs.Prelude.{◌≡◌};
+ghost use Rattle.std.specs.Prelude.{◌≡◌, OnErr, is_ok};
 ghost use Rattle.words.specs.Bounded.{any};
 ghost use Rattle.entries.specs.Meaning.{level_of, meaning};
 ghost use Rattle.rules.specs.General.{recounted, retyped, some_overrun, type_after};
 ghost use Rattle.rules.specs.Store.{counter_limit, lent};
 ghost use Rattle.rules.specs.Tables.{table_entries, table_entry};
 ghost use Rattle.ledger.specs.Counters.{entry_beyond, least_before};
+ghost use Rattle.ledger.specs.Layout.{code_of};
 ghost use Rattle.ledger.specs.Meaning.{change_of};
 ghost use Rattle.ledger.specs.Needs.{EntryRecorded};
+ghost use Rattle.ledger.specs.Refusals.{answered};
 ghost use Rattle.validation.specs.Needs.{Placed, TablePlaced};
 ghost use Rattle.validation.specs.Tests.{entry_from};
 ghost use Rattle.tables.specs.Counting.{ChangedUnless, Counted, complete, ends_above, most_of, opposite};
@@ -17,12 +19,18 @@ ghost use Rattle.tables.specs.Needs.{AllStorable, TableReady};
 use crate::own::{first_word, put_types};
 use entries::decode::{accepted_entry, accepted_entry_at};
 use entries::entry::{Entry, Level};
-use ledger::bounds::{entry_beyond, least_before};
+use ledger::bounds::{Bounds, entry_beyond};
 use ledger::counters::{Change, change_entry, grants_some};
-use ledger::layout::{COUNTER_LIMIT, TYPE_D, record_of};
+use ledger::layout::{BlockType, COUNTER_LIMIT, record_of};
+use ledger::refusals::Refusal;
 use ledger::table::{table_blocks, table_entries, table_type};
 
-const LARGEST_WORD: u32 = 0xFFFF_FFFF;
+const LARGEST_WORD: u32 = u32::MAX;
+
+const WITHIN_LIMIT: Bounds = Bounds {
+    least: 0,
+    most: COUNTER_LIMIT,
+};
 
 // The greatest value of a counter that can change by one on the way: one that is taken from is judged at the end.
 fn most_of(change: Change) -> u32
@@ -48,22 +56,24 @@ fn is_stuck(change: Change, ledger: &[u8], e: Entry) -> bool
     requires { EntryRecorded ledger.now (meaning e) }
     ensures { result ≡ entry_beyond (least_before (change_of change)) (most_of (change_of change)) ledger.now (meaning e) }
 {
-    entry_beyond(ledger, e, least_before(change), most_of(change))
+    let least = Bounds::before(change).least;
+    let most = most_of(change);
+    entry_beyond(ledger, e, Bounds { least, most })
 }
 
-// Counts an entry, or leaves the ledger if a counter can't be changed; true if it is counted. Most entries of a table may grant nothing.
-fn count_entry(change: Change, memory: &[u8], ledger: &mut [u8], e: Entry) -> bool
+// Counts an entry, or leaves the ledger if a counter can't be changed. Most entries of a table may grant nothing.
+fn count_entry(change: Change, memory: &[u8], ledger: &mut [u8], e: Entry) -> Result<(), Refusal>
     requires { Placed memory.now ledger.old (meaning e) }
-    ensures { ChangedUnless (entry_beyond (least_before (change_of change)) (most_of (change_of change)) ledger.old (meaning e)) (recounted (change_of change) (lent memory.now ledger.old) 1 (λ k. meaning e)) ledger.old result ledger.new }
+    ensures { ChangedUnless (entry_beyond (least_before (change_of change)) (most_of (change_of change)) ledger.old (meaning e)) (recounted (change_of change) (lent memory.now ledger.old) 1 (λ k. meaning e)) ledger.old (is_ok result) ledger.new }
 {
     if !grants_some(e) {
-        return true;
+        return Ok(());
     }
     if is_stuck(change, ledger, e) {
-        return false;
+        return Err(Refusal::Overrun);
     }
     change_entry(change, memory, ledger, e);
-    true
+    Ok(())
 }
 
 // Counts entries up to one that can't be, and tells how many.
@@ -80,7 +90,7 @@ fn count_until_stuck(
 {
     for i in 0..m {
         let e = accepted_entry_at(level, memory, j + i);
-        if !count_entry(change, memory, ledger, e) {
+        if count_entry(change, memory, ledger, e).is_err() {
             return i;
         }
     }
@@ -105,7 +115,7 @@ fn some_above_limit(level: Level, memory: &[u8], ledger: &[u8], j: usize, m: usi
 {
     for i in 0..m {
         let e = accepted_entry_at(level, memory, j + i);
-        if entry_beyond(ledger, e, 0, COUNTER_LIMIT) {
+        if entry_beyond(ledger, e, WITHIN_LIMIT) {
             return true;
         }
     }
@@ -149,7 +159,7 @@ fn is_complete(
     !ends_above(change, level, memory, ledger, j, m)
 }
 
-// Counts the table's m entries, or leaves the ledger if a counter would overrun; true if they are counted.
+// Counts the table's m entries, or leaves the ledger if a counter would overrun (refusal 13).
 fn count_table(
     change: Change,
     level: Level,
@@ -157,25 +167,26 @@ fn count_table(
     ledger: &mut [u8],
     j: usize,
     m: usize,
-) -> bool
+) -> Result<(), Refusal>
     requires { TablePlaced (level_of level) memory.now ledger.old j m }
-    ensures { ChangedUnless (some_overrun (change_of change) (lent memory.now ledger.old) m (entry_from (level_of level) memory.now j)) (recounted (change_of change) (lent memory.now ledger.old) m (entry_from (level_of level) memory.now j)) ledger.old result ledger.new }
+    ensures changed { ChangedUnless (some_overrun (change_of change) (lent memory.now ledger.old) m (entry_from (level_of level) memory.now j)) (recounted (change_of change) (lent memory.now ledger.old) m (entry_from (level_of level) memory.now j)) ledger.old (is_ok result) ledger.new }
+    ensures overrun { OnErr result (answered result ≡ 13) }
 {
     let done = count_until_stuck(change, level, memory, ledger, j, m);
     if is_complete(change, level, memory, ledger, j, m, done) {
-        return true;
+        return Ok(());
     }
     count_all(opposite(change), level, memory, ledger, j, done);
-    false
+    Err(Refusal::Overrun)
 }
 
 // The type that the table's blocks get.
-fn type_after(change: Change, level: Level) -> u32
-    ensures { result ≡ type_after (change_of change) (level_of level) }
+fn type_after(change: Change, level: Level) -> BlockType
+    ensures { code_of result ≡ type_after (change_of change) (level_of level) }
 {
     match change {
         Change::Added => table_type(level),
-        Change::Removed => TYPE_D,
+        Change::Removed => BlockType::Data,
     }
 }
 
@@ -186,21 +197,20 @@ pub fn change_table(
     memory: &[u8],
     ledger: &mut [u8],
     block: u32,
-) -> bool
+) -> Result<(), Refusal>
     requires { TableReady (level_of level) memory.now ledger.old block }
-    ensures { ChangedUnless (some_overrun (change_of change) (lent memory.now ledger.old) (table_entries (level_of level)) (table_entry (level_of level) (lent memory.now ledger.old) block)) (retyped (change_of change) (level_of level) (lent memory.now ledger.old) block).ledger ledger.old result ledger.new }
+    ensures changed { ChangedUnless (some_overrun (change_of change) (lent memory.now ledger.old) (table_entries (level_of level)) (table_entry (level_of level) (lent memory.now ledger.old) block)) (retyped (change_of change) (level_of level) (lent memory.now ledger.old) block).ledger ledger.old (is_ok result) ledger.new }
+    ensures overrun { OnErr result (answered result ≡ 13) }
 {
     let j = first_word(ledger, block);
     let b = record_of(ledger, block);
     let m = table_entries(level) as usize;
-    if !count_table(change, level, memory, ledger, j, m) {
-        return false;
-    }
+    count_table(change, level, memory, ledger, j, m)?;
     put_types(
         ledger,
         b,
         table_blocks(level) as usize,
         type_after(change, level),
     );
-    true
+    Ok(())
 }

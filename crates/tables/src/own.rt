@@ -5,14 +5,14 @@ ghost use Rattle.entries.specs.Entries.{l1, l2};
 ghost use Rattle.entries.specs.Meaning.{level_of};
 ghost use Rattle.rules.specs.Create.{some_count};
 ghost use Rattle.rules.specs.Free.{in_use};
-ghost use Rattle.rules.specs.Store.{base_place, block_words, ledger_head_bytes, lent, retype};
-ghost use Rattle.ledger.specs.Needs.{Fits, InLedger, TableInside, record_of};
+ghost use Rattle.rules.specs.Store.{base_place, block_words, ledger_head_bytes, retype};
+ghost use Rattle.ledger.specs.Layout.{code_of};
+ghost use Rattle.ledger.specs.Needs.{InLedger, TableInside, record_of};
+ghost use Rattle.ledger.specs.Regions.{store_of};
 
 use entries::entry::Level;
-use ledger::layout::{
-    BLOCK_WORDS, EXECUTABLE, LINKED, TYPE, WRITABLE, active, put_record_word, record_of,
-    record_word,
-};
+use ledger::layout::{BLOCK_WORDS, BlockType, Field, put_record_word, record_of, record_word};
+use ledger::region::Region;
 use ledger::scan::some_above_zero;
 use ledger::table::table_blocks;
 
@@ -25,55 +25,51 @@ pub fn first_word(ledger: &[u8], block: u32) -> usize
 }
 
 // Some block of the table has counts (create 6).
-pub fn is_counted(level: Level, memory: &[u8], ledger: &[u8], block: u32) -> bool
-    requires fits { Fits memory.now ledger.now }
-    requires table_inside { TableInside (level_of level) memory.now ledger.now block }
-    ensures { result ≡ some_count (level_of level) (lent memory.now ledger.now) block }
+pub fn is_counted(level: Level, region: &Region<'_>, block: u32) -> bool
+    requires { TableInside (level_of level) region.now.memory.now region.now.ledger.now block }
+    ensures { result ≡ some_count (level_of level) (store_of region.now) block }
 {
-    let b = record_of(ledger, block);
+    let b = region.record_of(block);
     let m = table_blocks(level) as usize;
-    if some_above_zero(ledger, WRITABLE, b, m) {
+    if some_above_zero(region.ledger, Field::Writable, b, m) {
         return true;
     }
-    if some_above_zero(ledger, EXECUTABLE, b, m) {
+    if some_above_zero(region.ledger, Field::Executable, b, m) {
         return true;
     }
-    some_above_zero(ledger, LINKED, b, m)
+    some_above_zero(region.ledger, Field::Linked, b, m)
 }
 
-fn is_active(memory: &[u8], ledger: &[u8], block: u32) -> bool
-    requires { Fits memory.now ledger.now }
-    ensures { result ≡ in_use l1 (lent memory.now ledger.now) block }
+fn is_active(region: &Region<'_>, block: u32) -> bool
+    ensures { result ≡ in_use l1 (store_of region.now) block }
 {
-    active(ledger) == block
+    region.active() == block
 }
 
-fn is_linked(memory: &[u8], ledger: &[u8], block: u32) -> bool
-    requires fits { Fits memory.now ledger.now }
-    requires table_inside { TableInside l2 memory.now ledger.now block }
-    ensures { result ≡ in_use l2 (lent memory.now ledger.now) block }
+fn is_linked(region: &Region<'_>, block: u32) -> bool
+    requires { TableInside l2 region.now.memory.now region.now.ledger.now block }
+    ensures { result ≡ in_use l2 (store_of region.now) block }
 {
-    0 < record_word(ledger, LINKED, record_of(ledger, block))
+    0 < record_word(region.ledger, Field::Linked, region.record_of(block))
 }
 
 // The table is active, or linked to (free 6).
-pub fn is_in_use(level: Level, memory: &[u8], ledger: &[u8], block: u32) -> bool
-    requires fits { Fits memory.now ledger.now }
-    requires table_inside { TableInside (level_of level) memory.now ledger.now block }
-    ensures { result ≡ in_use (level_of level) (lent memory.now ledger.now) block }
+pub fn is_in_use(level: Level, region: &Region<'_>, block: u32) -> bool
+    requires { TableInside (level_of level) region.now.memory.now region.now.ledger.now block }
+    ensures { result ≡ in_use (level_of level) (store_of region.now) block }
 {
     match level {
-        Level::L1 => is_active(memory, ledger, block),
-        Level::L2 => is_linked(memory, ledger, block),
+        Level::L1 => is_active(region, block),
+        Level::L2 => is_linked(region, block),
     }
 }
 
 // The types of the m blocks from block b on become t, b counted from the region's first.
-pub fn put_types(ledger: &mut [u8], b: usize, m: usize, t: u32)
+pub fn put_types(ledger: &mut [u8], b: usize, m: usize, t: BlockType)
     requires { InLedger ledger.old (b + m) }
-    ensures { ledger.new ≡ retype ledger.old b m t }
+    ensures { ledger.new ≡ retype ledger.old b m (code_of t) }
 {
     for i in 0..m {
-        put_record_word(ledger, TYPE, b + i, t);
+        put_record_word(ledger, Field::Type, b + i, t.code());
     }
 }

@@ -3,3 +3,4 @@ pub mod Fields
 pub mod Lists
 pub mod Words
 pub mod Sums
+pub mod Scans

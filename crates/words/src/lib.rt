@@ -1,8 +1,8 @@
 // Words of 32 bits and numbers of 16 in lent bytes, and the mathematics of lists and bounded sums under all layers.
 #![tactic(auto)]
 
-ghost use Rattle.std.specs.Prelude.{◌≡◌, ◌+◌, ◌*◌, ◌^◌, ◌<◌, ◌≤◌, length};
-ghost use Rattle.words.specs.Bounded.{among};
+ghost use Rattle.std.specs.Prelude.{Bool, ℕ, ◌≡◌, ◌+◌, ◌*◌, ◌^◌, ◌<◌, ◌≤◌, length};
+ghost use Rattle.words.specs.Bounded.{among, any};
 ghost use Rattle.words.specs.Lists.{put_list};
 ghost use Rattle.words.specs.Words.{bits, half, word, put_word};
 
@@ -75,4 +75,17 @@ pub fn is_among(p: u32, m: u32, b: u32) -> bool
         return false;
     }
     b - p < m
+}
+
+// Some number below m passes the test. Compiled into its callers this is a loop written out: a range's own `any` takes one or two instructions more a number.
+pub fn some_below<F: Fn(usize) -> bool>(m: usize, test: F) -> bool
+    requires { (i : ℕ) → i < m → F.pre test i }
+    ensures { (p : ℕ → Bool) → ((i : ℕ) (b : Bool) → i < m → F.post test i b → b ≡ p i) → result ≡ any m p }
+{
+    for i in 0..m {
+        if test(i) {
+            return true;
+        }
+    }
+    false
 }

@@ -28,4 +28,4 @@ returns c =
     let g = told c.grants.ensures c.if-not-grants.false in
     rw g
     ((rw (c.field.ensures, c.record_of-b.ensures.is) at c.some_beyond.ensures)
-    ∙ some_block_records _ _ _ (λ (x : ℕ). beyond a.least a.most (record_word a.ledger.now (counter_word (counter_of a.counter)) x)) (c.requires _ g).0)
+    ∙ some_block_records _ _ _ (λ (x : ℕ). beyond a.bounds.least a.bounds.most (record_word a.ledger.now (counter_word (counter_of a.counter)) x)) (c.requires _ g).0)

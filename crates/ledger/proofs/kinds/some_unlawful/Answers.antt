@@ -13,7 +13,7 @@ loop-i-init c = (omega arith, refl)
 pub loop-i-preserved : goal.loop-i-preserved
 loop-i-preserved c =
     let loop = c.loop-i in
-    (omega arith, flag_next _ _ loop.invariant.1 (c.either-found.ensures ∙ rw (c.is_unlawful_pair-unlawful.ensures, c.word.ensures)))
+    (omega arith, flag_next _ _ loop.invariant.1 (rw (c.is_unlawful_pair-found.ensures, c.word.ensures) refl))
 
 pub returns : goal.returns
 returns c =

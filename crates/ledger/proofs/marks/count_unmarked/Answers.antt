@@ -1,24 +1,18 @@
-use mathlib.Core.Bool.{not}
-use mathlib.Core.Path.{◌≡◌, refl}
-use Prim.Native.Nat.{◌+◌}
-use native.Mathlib.Numerals.{add-one}
+use mathlib.Core.Bool.{Bool, not}
+use Prim.Native.Nat.{ℕ, ◌+◌}
 use native.Mathlib.Omega.{arith}
 use lib.Dec.{eqb}
-use Rattle.words.specs.Bounded.{sum}
+use Rattle.std.proofs.Common.{rules, tests}
+use Rattle.words.specs.Bounded.{num}
+use Rattle.words.proofs.Scans.{sum_below, sum_below_fits}
+use Rattle.words.proofs.Sums.{count_most}
 use Rattle.rules.specs.Store.{record_word, mark_word, mark_value}
-use Rattle.ledger.proofs.Marking.{count_next}
 use Rattle.ledger.proofs.marks.count_unmarked.Goals as goal
 
-pub loop-i-init : goal.loop-i-init
-unfolding sum
-loop-i-init c = (omega arith, refl)
-
-pub overflow_add-n : goal.overflow_add-n
-overflow_add-n c = let at = c.loop-i in let a = c.args in omega (arith, at.invariant.1, c.unmarked-n.ensures, count_next (λ k. not (eqb (record_word a.ledger.now mark_word (a.b + k)) mark_value)) at.i)
-
-pub loop-i-preserved : goal.loop-i-preserved
-unfolding sum
-loop-i-preserved c = let at = c.loop-i in (omega arith, rw (add-one, ← at.invariant.1, c.unmarked-n.ensures) refl)
+pub sum-requires-clause-fits : goal.sum-requires-clause-fits
+sum-requires-clause-fits c =
+    let p : ℕ → Bool = λ i. not (eqb (record_word c.args.ledger.now mark_word (c.args.b + i)) mark_value) in
+    sum_below_fits (λ i. num (p i)) _ _ c.map.ensures.source c.map.ensures.closure (λ x b q k. search (rules, tests)) _ (omega (arith, count_most p c.args.m))
 
 pub returns : goal.returns
-returns c = let e : c.loop-i.i ≡ c.args.m = omega arith in rw e at c.loop-i.invariant.1
+returns c = sum_below _ _ _ c.map.ensures.source c.map.ensures.closure (λ x b q k. search (rules, tests)) _ c.sum.ensures.ran

@@ -1,6 +1,7 @@
 -- The table's entries are counted, and then its blocks get their type.
 use mathlib.Core.Path.{sym, ◌∙◌}
 use native.Mathlib.Omega.{arith}
+use Rattle.std.proofs.lemmas.Result.{err_from_is_err_and}
 use Rattle.rules.proofs.State.{fits_stored, within}
 use Rattle.tables.proofs.count.change_table.Goals as goal
 
@@ -17,11 +18,11 @@ count_table-requires c =
     let inside = within _ _ _ _ pre.inside in
     record { fits = pre.fits; holds = omega (arith, c.first_word-j.ensures, c.table_entries-m.ensures); accepted = λ i l. rw c.first_word-j.ensures (pre.accepted i (omega (arith, c.table_entries-m.ensures))); placed = λ i l. rw c.first_word-j.ensures (pre.placed i (omega (arith, c.table_entries-m.ensures))) }
 
-pub returns-then-not-count_table : goal.returns-then-not-count_table
-returns-then-not-count_table c =
-    let counted = rw (c.first_word-j.ensures, c.table_entries-m.ensures) at c.count_table.ensures in
-    let no = c.if-not-count_table.true in
-    record { tells = sym no ∙ counted.tells; leaves = rw no at counted.leaves }
+pub returns-in_err-count_table : goal.returns-in_err-count_table
+returns-in_err-count_table c =
+    let p = err_from_is_err_and c.from_residual.result c.from_residual.ensures.1 in
+    let counted = rw (c.first_word-j.ensures, c.table_entries-m.ensures) at c.in_err-count_table.ensures.changed in
+    rw (p.1, p.2) (record { changed = record { tells = counted.tells; leaves = counted.leaves }; overrun = c.in_err-count_table.ensures.overrun })
 
 pub put_types-requires : goal.put_types-requires
 put_types-requires c =
@@ -31,6 +32,5 @@ put_types-requires c =
 
 pub returns : goal.returns
 returns c =
-    let counted = rw (c.first_word-j.ensures, c.table_entries-m.ensures) at c.count_table.ensures in
-    let yes = c.if-not-count_table.false in
-    record { tells = sym yes ∙ counted.tells; leaves = rw (rw yes at counted.leaves, c.record_of-b.ensures.is, c.table_blocks.ensures.0, c.type_after.ensures) at c.put_types.ensures }
+    let counted = rw (c.first_word-j.ensures, c.table_entries-m.ensures) at c.in_ok-count_table.ensures.changed in
+    record { changed = record { tells = counted.tells; leaves = rw (counted.leaves, c.record_of-b.ensures.is, c.table_blocks.ensures.0, c.type_after.ensures) at c.put_types.ensures }; overrun = tt }

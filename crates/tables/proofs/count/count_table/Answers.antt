@@ -1,4 +1,5 @@
 -- A counter overruns on the way or at the end exactly if it overruns at once; then what was counted is taken back.
+use mathlib.Core.Path.{refl}
 use native.Mathlib.Omega.{arith}
 use Rattle.words.proofs.Bounded.{told}
 use Rattle.words.proofs.Words.{Bytes}
@@ -13,7 +14,7 @@ is_complete-requires c =
 pub returns-then-is_complete : goal.returns-then-is_complete
 returns-then-is_complete c =
     let bytes : Bytes c.args.ledger.now = λ i. omega (arith, c.slice_known-1.given i) in
-    counted_all _ c.requires bytes c.count_until_stuck-done.ensures (told c.is_complete.ensures c.if-is_complete.true)
+    record { changed = counted_all _ c.requires bytes c.count_until_stuck-done.ensures (told c.is_complete.ensures c.if-is_complete.true); overrun = tt }
 
 pub count_all-requires : goal.count_all-requires
 count_all-requires c =
@@ -24,4 +25,4 @@ count_all-requires c =
 pub returns : goal.returns
 returns c =
     let bytes : Bytes c.args.ledger.now = λ i. omega (arith, c.slice_known-1.given i) in
-    counted_undone _ c.requires bytes c.count_until_stuck-done.ensures (told c.is_complete.ensures c.if-is_complete.false) (rw c.opposite.ensures at c.count_all.ensures)
+    record { changed = counted_undone _ c.requires bytes c.count_until_stuck-done.ensures (told c.is_complete.ensures c.if-is_complete.false) (rw c.opposite.ensures at c.count_all.ensures); overrun = refl }

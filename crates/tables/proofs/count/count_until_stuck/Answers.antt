@@ -22,19 +22,19 @@ pub count_entry-requires : goal.count_entry-requires
 count_entry-requires c = let bytes : Bytes c.args.ledger.now = λ i. omega (arith, c.slice_known-1.given i) in
     next_ready _ c.requires bytes c.loop-i.i c.loop-i.invariant.1 (omega arith) c.accepted_entry_at-e.ensures
 
-pub shape_of-ledger-then-not-count_entry : goal.shape_of-ledger-then-not-count_entry
-shape_of-ledger-then-not-count_entry c =
+pub shape_of-ledger-then-is_err : goal.shape_of-ledger-then-is_err
+shape_of-ledger-then-is_err c =
     let start = c in
     let bytes : Bytes start.args.ledger.now = λ i. omega (arith, c.slice_known-1.given i) in
     c.count_entry.auto.ledger ∙ length_reached _ start.requires bytes c.loop-i.i c.loop-i.invariant.1
 
-pub returns-then-not-count_entry : goal.returns-then-not-count_entry
-returns-then-not-count_entry c = let bytes : Bytes c.args.ledger.now = λ i. omega (arith, c.slice_known-1.given i) in
-    count_stops _ c.requires bytes c.loop-i.i c.loop-i.invariant.1 (omega arith) c.accepted_entry_at-e.ensures c.loop-i.invariant.2 c.count_entry.ensures c.if-not-count_entry.true
+pub returns-then-is_err : goal.returns-then-is_err
+returns-then-is_err c = let bytes : Bytes c.args.ledger.now = λ i. omega (arith, c.slice_known-1.given i) in
+    count_stops _ c.requires bytes c.loop-i.i c.loop-i.invariant.1 (omega arith) c.accepted_entry_at-e.ensures c.loop-i.invariant.2 c.count_entry.ensures (rw c.if-is_err.true at c.is_err.ensures.negation)
 
 pub loop-i-preserved : goal.loop-i-preserved
 loop-i-preserved c = let bytes : Bytes c.args.ledger.now = λ i. omega (arith, c.slice_known-1.given i) in
-    let (is, more) = count_goes_on _ c.requires bytes c.loop-i.i c.loop-i.invariant.1 (omega arith) c.accepted_entry_at-e.ensures c.loop-i.invariant.2 c.count_entry.ensures c.if-not-count_entry.false in
+    let (is, more) = count_goes_on _ c.requires bytes c.loop-i.i c.loop-i.invariant.1 (omega arith) c.accepted_entry_at-e.ensures c.loop-i.invariant.2 c.count_entry.ensures (rw c.if-is_err.false at c.is_err.ensures.negation) in
     (omega arith, is, more)
 
 pub shape_of-ledger : goal.shape_of-ledger

@@ -2,4 +2,4 @@
 use Rattle.tables.proofs.count.is_stuck.Goals as goal
 
 pub returns : goal.returns
-returns c = rw (c.least_before.ensures, c.most_of.ensures) at c.entry_beyond.ensures
+returns c = rw (c.before-least.ensures.least, c.most_of-most.ensures) at c.entry_beyond.ensures

@@ -2,7 +2,7 @@
 use Rattle.tables.proofs.own.is_in_use.Goals as goal
 
 pub is_linked-requires : goal.is_linked-requires
-is_linked-requires c = record { fits = c.requires.fits; table_inside = rw c.in-L2.is at c.requires.table_inside }
+is_linked-requires c = rw c.in-L2.is at c.requires
 
 pub returns-in-L1 : goal.returns-in-L1
 returns-in-L1 c = rw c.in-L1.is c.is_active.ensures

@@ -5,10 +5,10 @@ use Rattle.rules.proofs.State.{fits_stored, within}
 use Rattle.tables.proofs.own.is_linked.Goals as goal
 
 pub record_of-requires : goal.record_of-requires
-record_of-requires c = let fit = fits_stored _ c.requires.fits in (omega arith, (within _ _ _ _ c.requires.table_inside).0)
+record_of-requires c = (within _ _ _ _ c.requires).0
 
 pub record_word-requires : goal.record_word-requires
-record_word-requires c = let fit = fits_stored _ c.requires.fits in omega (arith, within _ _ _ _ c.requires.table_inside, c.record_of.ensures.is)
+record_word-requires c = let fit = fits_stored _ c.args.region.now.fits in omega (arith, within _ _ _ _ c.requires, c.record_of.ensures.is)
 
 pub returns : goal.returns
 unfolding in_use

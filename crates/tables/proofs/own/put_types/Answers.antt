@@ -15,7 +15,7 @@ pub put_record_word-requires : goal.put_record_word-requires
 put_record_word-requires c = let inv = c.loop-i.invariant.1 in omega arith
 
 pub loop-i-preserved : goal.loop-i-preserved
-loop-i-preserved c = (omega arith, (omega arith, (rw c.loop-i.invariant.1.1 at c.put_record_word.ensures) ∙ sym (retype_more _ _ c.loop-i.i _)))
+loop-i-preserved c = (omega arith, (omega arith, (rw (c.loop-i.invariant.1.1, c.code.ensures) at c.put_record_word.ensures) ∙ sym (retype_more _ _ c.loop-i.i _)))
 
 pub shape_of-ledger : goal.shape_of-ledger
 shape_of-ledger c = c.loop-i.invariant.1.0

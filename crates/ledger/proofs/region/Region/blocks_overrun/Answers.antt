@@ -7,4 +7,4 @@ blocks_beyond-requires c = recorded_inside _ _ _ _ c.args.self.now.fits c.requir
 
 pub returns : goal.returns
 returns c =
-    overruns-any _ _ _ _ _ c.args.self.now.fits c.requires (rw (c.least_before.ensures, c.most_before.ensures) at c.blocks_beyond.ensures)
+    overruns-any _ _ _ _ _ c.args.self.now.fits c.requires (rw (c.before-2.ensures.least, c.before-2.ensures.most) at c.blocks_beyond.ensures)

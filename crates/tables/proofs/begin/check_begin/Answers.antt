@@ -1,7 +1,7 @@
 -- Each return is decided by the tests up to its own.
 use Rattle.words.proofs.Bounded.{differ, same, told}
 use Rattle.ledger.proofs.Judge.{decides, none, here, past}
-use Rattle.tables.proofs.begin.begin_refusal.Goals as goal
+use Rattle.tables.proofs.begin.check_begin.Goals as goal
 
 pub returns-then-is_misfit : goal.returns-then-is_misfit
 returns-then-is_misfit c = decides (here (told c.is_misfit.ensures c.if-is_misfit.true))
