@@ -85,6 +85,7 @@ impl Table<'_> {
         requires { InPlace self.now }
         ensures { result ≡ any self.now.entries (λ i. meets_members self.now.region.ledger.now members.now.bits (entries_of self.now i)) }
     {
+        // An index loop: a closure of two calls would have to state what each of them asks.
         for i in 0..self.entries {
             if meets_members(&self.region, members, self.accepted_entry(i)) {
                 return true;
