@@ -1,5 +1,5 @@
 -- A set of blocks of a region, by their places in it: block b is bit b % 8 of byte b / 8 (RULES: create, memory).
-use Rattle.std.specs.Prelude.{Bool, false, cond, not, ◌&&◌, ◌||◌, List, ◌≡◌, ℕ, ◌+◌, ◌*◌, ◌/◌, ◌%◌, ◌^◌, ◌<◌, ◌≤◌, eqb, get_or, Option, None, Some}
+use Rattle.std.specs.Prelude.{Bool, false, cond, not, ◌&&◌, ◌||◌, List, ◌≡◌, ℕ, ◌+◌, ◌/◌, ◌%◌, ◌^◌, ◌<◌, ◌≤◌, eqb, get_or, Option, None, Some}
 use Rattle.words.specs.Bounded.{any, count}
 use Rattle.entries.specs.Entries.{Entry, cover_first, cover_blocks}
 use Rattle.rules.specs.Signature.{unknown}

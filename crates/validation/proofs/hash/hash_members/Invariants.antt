@@ -1,5 +1,5 @@
 -- The invariant: of the blocks of the bytes passed none is unknown, and n are hashed. Behind the region the set has no block.
-use Prim.Native.Nat.{◌-◌, ◌*◌, ◌≤◌}
+use Prim.Native.Nat.{◌*◌, ◌≤◌}
 use Rattle.ledger.specs.Regions.{store_of}
 use Rattle.validation.proofs.Hashing.{Known}
 use Rattle.validation.proofs.hash.hash_members.Given as goal

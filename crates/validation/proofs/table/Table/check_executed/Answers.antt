@@ -27,9 +27,6 @@ module _ (golden : List ℕ) (s : Store) (m : ℕ) (e : ℕ → Entry) (members 
   admitted_hashed None is = tt
   admitted_hashed (Some n) is = admitted s m e members gathered (region_counted golden s members is)
 
-pub some_clashes-requires : goal.some_clashes-requires
-some_clashes-requires c = record { in_place = c.requires.in_place; written = c.requires.all_gathered.written }
-
 pub returns-then-some_clashes : goal.returns-then-some_clashes
 returns-then-some_clashes c = record { value = decides (here (clash_found _ _ _ _ c.requires.all_gathered c.requires.uncounted c.requires.in_place.placed c.some_clashes.ensures c.if-some_clashes.true)); admitted = tt }
 

@@ -3,7 +3,6 @@ use mathlib.Core.Path.{◌∙◌}
 use native.Mathlib.Omega.{arith}
 use Rattle.words.proofs.Bounded.{told}
 use Rattle.ledger.specs.Regions.{store_of}
-use Rattle.rules.proofs.State.{fits_stored}
 use Rattle.validation.proofs.Covers.{entry_recorded}
 use Rattle.validation.proofs.Surveys.{found_unaccepted, found_astray, found_target, found_idle, idle_gathers}
 use Rattle.validation.proofs.table.Table.entry_finding.Goals as goal

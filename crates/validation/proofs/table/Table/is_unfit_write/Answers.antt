@@ -9,9 +9,6 @@ pub returns-then-not-grants : goal.returns-then-not-grants
 unfolding unfit_write
 returns-then-not-grants c = rw (told c.grants.ensures c.if-not-grants.true)
 
-pub cover_differs-requires : goal.cover_differs-requires
-cover_differs-requires c = c.requires _ (told c.grants.ensures c.if-not-grants.false)
-
 pub returns-then-cover_differs : goal.returns-then-cover_differs
 returns-then-cover_differs c = sym (unfit_write_is _ _ _ _ (told c.grants.ensures c.if-not-grants.false) ∙ (rw (told c.cover_differs.ensures c.if-cover_differs.true) refl))
 

@@ -1,6 +1,5 @@
-use mathlib.Core.Path.{◌≡◌, sym, ◌∙◌, ap}
+use mathlib.Core.Path.{sym, ◌∙◌}
 use native.Mathlib.Omega.{arith}
-use Rattle.validation.specs.Findings.{finding_of}
 use Rattle.validation.proofs.Surveys.{new_start, new_left, new_next, is_unaccepted_finding, greater_first, gathered_none, gathered_more}
 use Rattle.validation.proofs.table.Table.survey_new.Goals as goal
 
@@ -19,8 +18,3 @@ loop-i-preserved c =
     let at = c.loop-i in
     let one = rw c.entry.ensures at c.survey_with-survey.ensures in
     (omega arith, new_next _ _ _ at.i _ at.i at.invariant.1 one.value, λ z. gathered_more _ at.i _ _ _ (at.invariant.2 (greater_first _ _ 2 (rw one.value at z))) (one.gathered z) one.written)
-
-pub returns : goal.returns
-returns c =
-    let e : c.loop-i.i ≡ c.args.self.now.entries = omega arith in
-    record { value = rw e at c.loop-i.invariant.1; all_gathered = rw e at c.loop-i.invariant.2 }

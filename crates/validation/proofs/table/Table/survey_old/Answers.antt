@@ -1,4 +1,4 @@
-use mathlib.Core.Path.{◌≡◌, sym, ◌∙◌, ap}
+use mathlib.Core.Path.{sym, ◌∙◌, ap}
 use native.Mathlib.Omega.{arith}
 use Rattle.validation.specs.Findings.{finding_of}
 use Rattle.validation.proofs.Surveys.{old_start, old_left, old_next, is_unaccepted_finding, greater_max}
@@ -14,7 +14,3 @@ returns-then-eq c =
 
 pub loop-i-preserved : goal.loop-i-preserved
 loop-i-preserved c = (omega arith, old_next _ _ c.loop-i.i _ c.loop-i.i c.loop-i.invariant.1 (rw c.entry.ensures at c.place_finding-one.ensures) (ap finding_of c.max-found.ensures ∙ greater_max _ _))
-
-pub returns : goal.returns
-returns c = let e : c.loop-i.i ≡ c.args.self.now.entries = omega arith in
-    rw e at c.loop-i.invariant.1

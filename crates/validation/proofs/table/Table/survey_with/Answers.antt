@@ -1,6 +1,6 @@
 -- A fault leaves what was found, and gathers nothing.
 use Rattle.words.proofs.Bounded.{told}
-use Rattle.validation.proofs.Surveys.{found_fault, fault_gathers, fault_silent, greater_second, greater_max}
+use Rattle.validation.proofs.Surveys.{found_fault, fault_gathers, fault_silent}
 use Rattle.validation.proofs.table.Table.survey_with.Goals as goal
 
 pub returns-then-is_fault : goal.returns-then-is_fault
