@@ -8,14 +8,17 @@ use mathlib.Core.Path.{◌≡◌, refl, sym, ap, ◌∙◌}
 use Prim.Native.Nat.{ℕ, zero, suc, ◌+◌, ◌-◌, ◌*◌, ◌<◌, ◌≤◌}
 use native.Mathlib.Nat.{add-zero, zero-add, suc-add}
 use native.Mathlib.Omega.{arith}
-use lib.ListN.{length, get_or, drop, length-drop, length-append, get_or-append, get_or-eq_default, get_or-map}
+use lib.ListN.{length, get_or, take, drop, length-drop, length-append, get_or-append, get_or-eq_default, get_or-map}
 use lib.Seq.{get_or-drop, drop-append-le}
 use borrow.Author.Tests.{lt-ltb, le-ltb}
+use Rattle.std.specs.Array.{IsFirstChunk}
+use Rattle.std.specs.List.{slice_range}
+use Rattle.std.proofs.lemmas.List.{take_all, take-append-drop, length-take-le}
 use Rattle.words.proofs.Bounded.{below_or_above, or_left, or_right}
 use Rattle.words.specs.Bounded.{neqb}
 use Rattle.words.specs.Words.{word}
 use Rattle.rules.specs.Steps.{Step}
-use Rattle.steps.specs.Records.{record_bytes, call_place, calls, step_of, all_steps, short, whole_step, step_at, and_then, steps_from}
+use Rattle.steps.specs.Records.{record_bytes, call_place, calls, step_of, all_steps, short, unmarked, whole_step, step_at, and_then, steps_from}
 use Rattle.steps.specs.Spoilt.{spoilt}
 use Rattle.steps.specs.Turns.{is_step}
 use Rattle.steps.proofs.Decoding.{within_records}
@@ -62,8 +65,20 @@ step_prefix xs ys p h =
     step_same (xs ++ ys) xs p p (le-ltb (length (xs ++ ys)) (p + record_bytes) (omega arith) ∙ sym (le-ltb (length xs) (p + record_bytes) h))
     (λ k l. get_or-append xs ys 0 (p + k) (omega arith))
 
+-- the record at a place by the bytes of which it is made, taken by themselves
+pub step_alone : (xs rest part : List ℕ) (p : ℕ) → p ≤ length xs → rest ≡ slice_range xs p (length xs) → IsFirstChunk rest part record_bytes
+    → step_at xs p ≡ cond (unmarked part 0) none (whole_step part 0)
+unfolding step_at
+step_alone xs rest part p h e first =
+    let all : rest ≡ drop p xs = rw e (take_all (length xs - p) (drop p xs) (simp length-drop (omega arith))) in
+    let enough : record_bytes ≤ length rest = first.enough in
+    let fits : record_bytes ≤ length part = rw (first.same, length-take-le) (omega arith) in
+    let shift : step_at (drop p xs) 0 ≡ step_at xs p = rw add-zero at (step_shift xs p 0 h) in
+    let short : step_at (take record_bytes rest) 0 ≡ step_at rest 0 = sym (rw take-append-drop at (step_prefix (take record_bytes rest) (drop record_bytes rest) 0 (rw (← first.same) fits))) in
+    sym (rw (← all, ← short, ← first.same) at shift) ∙ rw (le-ltb (length part) record_bytes fits) refl
+
 -- where no whole record is left, there is no step
-step_short : (xs : List ℕ) (p : ℕ) → length xs < p + record_bytes → step_at xs p ≡ none
+pub step_short : (xs : List ℕ) (p : ℕ) → length xs < p + record_bytes → step_at xs p ≡ none
 unfolding step_at
 step_short xs p h = rw (lt-ltb (length xs) (p + record_bytes) h) refl
 

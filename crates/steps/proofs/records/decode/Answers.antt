@@ -1,16 +1,25 @@
--- A record of the right shape holds what its call byte and words say.
-use mathlib.Core.Path.{sym, ◌∙◌}
-use Rattle.steps.specs.Records.{step_at}
-use Rattle.steps.proofs.Decoding.{whole}
+-- A whole record holds what its bytes say, and none if it has another mark.
+use native.Mathlib.Omega.{arith}
+use lib.ListN.{get_or}
+use Rattle.words.proofs.Bounded.{differ, same}
+use Rattle.steps.proofs.Arrivals.{step_alone}
 use Rattle.steps.proofs.records.decode.Goals as goal
 
-pub returns-then-is_misshapen : goal.returns-then-is_misshapen
-unfolding step_at
-returns-then-is_misshapen c = rw (← c.is_misshapen.ensures, c.if-is_misshapen.true)
+pub returns-in_default : goal.returns-in_default
+returns-in_default c =
+    let part = c.in_ok-get.ensures.lookup.0 in
+    let bytes = c.in_ok-record.record.now in
+    rw (step_alone _ _ _ c.args.at part.0 part.2 c.in_ok-record.ensures.cases, same (get_or bytes 0 0) 0x50 (omega arith), differ (get_or bytes 1 0) 0x54 (omega arith))
 
-pub step_in-requires : goal.step_in-requires
-step_in-requires c = let a = c.args in whole a.records.now a.at (sym c.is_misshapen.ensures ∙ c.if-is_misshapen.false)
+pub returns-in_default-2 : goal.returns-in_default-2
+returns-in_default-2 c =
+    let part = c.in_ok-get.ensures.lookup.0 in
+    let bytes = c.in_ok-record.record.now in
+    rw (step_alone _ _ _ c.args.at part.0 part.2 c.in_ok-record.ensures.cases, differ (get_or bytes 0 0) 0x50 (omega arith))
 
 pub returns : goal.returns
-unfolding step_at
-returns c = rw (← c.is_misshapen.ensures, c.if-is_misshapen.false) c.step_in.ensures
+returns c =
+    let part = c.in_ok-get.ensures.lookup.0 in
+    let bytes = c.in_ok-record.record.now in
+    rw (step_alone _ _ _ c.args.at part.0 part.2 c.in_ok-record.ensures.cases, same (get_or bytes 0 0) 0x50 (omega arith), same (get_or bytes 1 0) 0x54 (omega arith))
+    (rw (c.word-4.ensures, c.word-3.ensures, c.word-2.ensures, c.word.ensures) at c.step_of.ensures)
