@@ -11,9 +11,8 @@ use native.Mathlib.Omega.{arith}
 use lib.ListN.{length, get_or, take, drop, length-drop, length-append, get_or-append, get_or-eq_default, get_or-map}
 use lib.Seq.{get_or-drop, drop-append-le}
 use borrow.Author.Tests.{lt-ltb, le-ltb}
-use Rattle.std.specs.Array.{IsFirstChunk}
 use Rattle.std.specs.List.{slice_range}
-use Rattle.std.proofs.lemmas.List.{take_all, take-append-drop, length-take-le}
+use Rattle.std.proofs.lemmas.List.{take-append-drop, length-take-le}
 use Rattle.words.proofs.Bounded.{below_or_above, or_left, or_right}
 use Rattle.words.specs.Bounded.{neqb}
 use Rattle.words.specs.Words.{word}
@@ -66,16 +65,17 @@ step_prefix xs ys p h =
     (λ k l. get_or-append xs ys 0 (p + k) (omega arith))
 
 -- the record at a place by the bytes of which it is made, taken by themselves
-pub step_alone : (xs rest part : List ℕ) (p : ℕ) → p ≤ length xs → rest ≡ slice_range xs p (length xs) → IsFirstChunk rest part record_bytes
-    → step_at xs p ≡ cond (unmarked part 0) none (whole_step part 0)
+pub step_alone : (xs : List ℕ) (p : ℕ) → p + record_bytes ≤ length xs
+    → (let part = slice_range xs p (p + record_bytes) in step_at xs p ≡ cond (unmarked part 0) none (whole_step part 0))
 unfolding step_at
-step_alone xs rest part p h e first =
-    let all : rest ≡ drop p xs = rw e (take_all (length xs - p) (drop p xs) (simp length-drop (omega arith))) in
-    let enough : record_bytes ≤ length rest = first.enough in
-    let fits : record_bytes ≤ length part = rw (first.same, length-take-le) (omega arith) in
-    let shift : step_at (drop p xs) 0 ≡ step_at xs p = rw add-zero at (step_shift xs p 0 h) in
-    let short : step_at (take record_bytes rest) 0 ≡ step_at rest 0 = sym (rw take-append-drop at (step_prefix (take record_bytes rest) (drop record_bytes rest) 0 (rw (← first.same) fits))) in
-    sym (rw (← all, ← short, ← first.same) at shift) ∙ rw (le-ltb (length part) record_bytes fits) refl
+step_alone xs p h =
+    let rest = drop p xs in
+    let n : p + record_bytes - p ≡ record_bytes = omega arith in
+    let enough : record_bytes ≤ length rest = simp length-drop (omega arith) in
+    let fits : record_bytes ≤ length (take record_bytes rest) = rw length-take-le (omega arith) in
+    let shift : step_at rest 0 ≡ step_at xs p = rw add-zero at (step_shift xs p 0 (omega arith)) in
+    let short : step_at (take record_bytes rest) 0 ≡ step_at rest 0 = sym (rw take-append-drop at (step_prefix (take record_bytes rest) (drop record_bytes rest) 0 fits)) in
+    rw n (sym (short ∙ shift) ∙ rw (le-ltb (length (take record_bytes rest)) record_bytes fits) refl)
 
 -- where no whole record is left, there is no step
 pub step_short : (xs : List ℕ) (p : ℕ) → length xs < p + record_bytes → step_at xs p ≡ none

@@ -46,11 +46,15 @@ fn step_of(call: u8, a: u32, b: u32, c: u32, d: u32) -> Option<Step>
 }
 
 // The step that the record at a place holds, if any.
-#[tactic(auto, using(crate::proofs::Arrivals::step_short))]
+#[tactic(auto, using(crate::proofs::Arrivals::step_alone, crate::proofs::Arrivals::step_short))]
 pub fn decode(records: &[u8], at: usize) -> Option<Step>
     ensures { held result ≡ step_at records.now at }
 {
-    let record: &[u8; RECORD_BYTES] = records.get(at..)?.first_chunk()?;
+    let last = records.len().checked_sub(RECORD_BYTES)?;
+    if last < at {
+        return None;
+    }
+    let record = &records[at..at + RECORD_BYTES];
     let [FIRST_MARK, SECOND_MARK, call, ..] = record else {
         return None;
     };
