@@ -1,7 +1,7 @@
 -- Laws of records that arrive in parts: what a list's records hold does not change when more bytes come behind them, and those that come
 -- are read as if they stood alone.
 use mathlib.Core.Bool.{Bool, true, false, not, cond, ◌||◌, false≢true}
-use mathlib.Core.List.{List, [], ◌∷◌, ◌++◌}
+use mathlib.Core.List.{List, ◌++◌}
 use mathlib.Core.Logic.{⊎_elim}
 use mathlib.Core.Option.{Option, none, some}
 use mathlib.Core.Path.{◌≡◌, refl, sym, ap, ◌∙◌}
@@ -12,7 +12,7 @@ use lib.ListN.{length, get_or, take, drop, length-drop, length-append, get_or-ap
 use lib.Seq.{get_or-drop, drop-append-le}
 use borrow.Author.Tests.{lt-ltb, le-ltb}
 use Rattle.std.specs.List.{slice_range}
-use Rattle.std.proofs.lemmas.List.{take-append-drop, length-take-le}
+use Rattle.std.proofs.lemmas.List.{take-append-drop, length-take-le, get_or_default}
 use Rattle.words.proofs.Bounded.{below_or_above, or_left, or_right}
 use Rattle.words.specs.Bounded.{neqb}
 use Rattle.words.specs.Words.{word}
@@ -163,12 +163,6 @@ step_behind xs = rw zero-add at (behind xs 0 (length xs) (omega arith))
 
 -- Bytes that begin no record
 
--- what stands for an element that is there does not matter
-pub get_or_any : (xs : List ℕ) (i a b : ℕ) → i < length xs → get_or xs i a ≡ get_or xs i b
-get_or_any [] i a b h = let z : ⊥ = omega arith in absurd z
-get_or_any (x ∷ xs) zero a b h = refl
-get_or_any (x ∷ xs) (suc i) a b h = get_or_any xs i a b (omega arith)
-
 -- whether a call byte is listed does not depend on the words
 listed : (call a b c d : ℕ) → is_step (step_of call a b c d) ≡ is_step (step_of call 0 0 0 0)
 unfolding step_of is_step
@@ -187,9 +181,9 @@ unfolding step_at spoilt is_step
 whole_step_lem xs p h =
     rw (
       le-ltb (length xs) (p + record_bytes) h,
-      get_or_any xs p 0x50 0 (omega arith),
-      get_or_any xs (p + 1) 0x54 0 (omega arith),
-      get_or_any xs (p + call_place) 1 0 (omega arith),
+      get_or_default xs p 0x50 0 (omega arith),
+      get_or_default xs (p + 1) 0x54 0 (omega arith),
+      get_or_default xs (p + call_place) 1 0 (omega arith),
     )
     (go (neqb (get_or xs p 0) 0x50) (neqb (get_or xs (p + 1) 0) 0x54) (whole_step xs p) (listed (get_or xs (p + call_place) 0) _ _ _ _)) where
       go : (a b : Bool) (o : Option Step) {l : Bool} → is_step o ≡ l → is_step (cond (a || b) none o) ≡ not (a || b || not l)

@@ -16,6 +16,7 @@ pub mod step; // step.rt: a step calls the monitor
 
 // Obeys the records up to the first that holds no step, as many as there is room for their answers and bytes, and says how many they were (runner 1,
 // runner 2). Lists 7 to 12 and 14 to 16 hold of what is left and handed out (runner 3).
+// The buffers come one by one, and the answers apart from their bytes, as C lends them (include/steps.h).
 pub fn pagemon_run(
     memory: &mut [u8],
     ledger: &mut [u8],

@@ -9,7 +9,7 @@ ghost use Rattle.steps.specs.Meaning.{meaning};
 const CLEAR_REGISTERS: [u8; 17] = [0; 17];
 
 // The calls in the order of their call bytes, with their arguments in the order of a record's words.
-#[derive(Drop)]
+#[derive(Clone, Copy)]
 pub enum Step {
     Begin(u32),
     CreateL1(u32),
@@ -34,14 +34,15 @@ pub enum Step {
     UnmapLarge(u32, u32),
 }
 
-// A step's answer and the byte that it gives, 0 where it gives none.
-#[derive(Drop)]
+// A step's answer and the byte that it gives. Where it gives none, 0 stands there, as in the buffer of bytes that C lends.
+#[derive(Clone, Copy)]
 pub struct Reply {
     pub answer: u32,
     pub byte: u8,
 }
 
 // Obeys a step; a guest step is lent fault registers of its own. How many blocks it hashed and what the registers tell is not handed on.
+// Memory, ledger and image are three parameters, since each arm hands them to a call of the monitor one by one.
 pub fn obey(step: Step, memory: &mut [u8], ledger: &mut [u8], golden: &[u8]) -> Reply
     ensures answer_value { result.answer ≡ (obey golden.now (lent memory.old ledger.old) (meaning step)).answer }
     ensures byte_value { result.byte ≡ (obey golden.now (lent memory.old ledger.old) (meaning step)).byte }
