@@ -1,4 +1,4 @@
-// The records of a list (program 2, program 3).
+// The records of a list (program 2, program 3). A place in the list stands beside it, as in step_at and spoilt, of which the clauses speak.
 ghost use Rattle.std.specs.Prelude.{◌≡◌, ◌≤◌, get_or, length};
 ghost use Rattle.steps.specs.Meaning.{held};
 ghost use Rattle.steps.specs.Records.{step_at, step_of};
