@@ -1,3 +1,4 @@
+pub mod Exits
 pub mod Linking
 pub mod Mappings
 pub mod Marking

@@ -4,18 +4,18 @@ ghost use Rattle.entries.specs.Entries.{block_tables};
 ghost use Rattle.rules.specs.Refusals.{answer_of};
 ghost use Rattle.rules.specs.Store.{lent};
 ghost use Rattle.rules.specs.Link.{link_outcome, link_refusals};
-ghost use Rattle.ledger.specs.Needs.{Fits};
+ghost use Rattle.ledger.specs.Refusals.{answered};
+ghost use Rattle.ledger.specs.Regions.{store_of};
 ghost use Rattle.mapping.specs.Pieces.{link_target_refusals};
 
-use crate::slot::{holder_refusal, is_occupied, write_entries};
+use crate::slot::{Spread, TableIndex, Window, is_occupied, write_entries};
 use entries::encode::link_word;
 use entries::entry::{BLOCK_TABLES, Entry, Level};
-use ledger::bounds::blocks_overrun;
 use ledger::counters::Change;
-use ledger::layout::{TYPE, TYPE_L2, base, record_of, record_word};
-use ledger::refusals::{ACCEPTED, BEYOND_TABLE, MISFIT, OVERRUN, UNFIT_TARGET, WRONG_ENTRY};
-use ledger::region::{blocks, is_misfit_stored, is_outside};
-use ledger::table::{place_refusal, table_entries};
+use ledger::layout::{BlockType, Field, record_word};
+use ledger::refusals::Refusal;
+use ledger::region::Region;
+use ledger::table::table_entries;
 
 // The blocks and the words of a link.
 const LINK_BLOCKS: u32 = 1;
@@ -23,55 +23,56 @@ const LINK_BLOCKS: u32 = 1;
 const LINK_WORDS: u32 = 1;
 
 // Refusals 10 and 13 of the table to be linked.
-fn link_target_refusal(memory: &[u8], ledger: &[u8], target: u32, table: u32) -> u32
-    requires { Fits memory.now ledger.now × (table < block_tables) }
-    ensures { result ≡ answer_of (link_target_refusals (lent memory.now ledger.now) target table) }
+fn check_link_target(region: &Region<'_>, target: u32, table: u32) -> Result<(), Refusal>
+    requires { table < block_tables }
+    ensures { answered result ≡ answer_of (link_target_refusals (store_of region.now) target table) }
 {
-    if is_outside(base(ledger), blocks(memory), target, LINK_BLOCKS) {
-        return UNFIT_TARGET;
+    if region.is_outside(target, LINK_BLOCKS) {
+        return Err(Refusal::UnfitTarget);
     }
-    let b = record_of(ledger, target);
-    if record_word(ledger, TYPE, b) != TYPE_L2 {
-        return UNFIT_TARGET;
+    let b = region.record_of(target);
+    if record_word(region.ledger, Field::Type, b) != BlockType::L2.code() {
+        return Err(Refusal::UnfitTarget);
     }
     let e = Entry::Link(BLOCK_TABLES * target + table);
-    if blocks_overrun(Change::Added, memory, ledger, e, target, LINK_BLOCKS) {
-        return OVERRUN;
+    if region.blocks_overrun(Change::Added, e, target, LINK_BLOCKS) {
+        return Err(Refusal::Overrun);
     }
-    ACCEPTED
+    Ok(())
 }
 
-fn link_refusal(
-    memory: &[u8],
-    ledger: &[u8],
+fn check_link(
+    region: &Region<'_>,
     block: u32,
     index: u32,
     target: u32,
     table: u32,
-) -> u32
-    ensures { result ≡ answer_of (link_refusals (lent memory.now ledger.now) block index target table) }
+) -> Result<(), Refusal>
+    ensures { answered result ≡ answer_of (link_refusals (store_of region.now) block index target table) }
 {
-    if is_misfit_stored(memory, ledger) {
-        return MISFIT;
-    }
-    let place = place_refusal(Level::L1, memory, ledger, block);
-    if place != ACCEPTED {
-        return place;
-    }
+    region.check_place(Level::L1, block)?;
     if table_entries(Level::L1) <= index {
-        return BEYOND_TABLE;
+        return Err(Refusal::BeyondTable);
     }
     if BLOCK_TABLES <= table {
-        return BEYOND_TABLE;
+        return Err(Refusal::BeyondTable);
     }
-    let holder = holder_refusal(Level::L1, memory, ledger, block, index);
-    if holder != ACCEPTED {
-        return holder;
+    let at = TableIndex {
+        region: *region,
+        level: Level::L1,
+        block,
+        index,
+    };
+    at.check_holder()?;
+    let window = Window {
+        block,
+        index,
+        words: LINK_WORDS,
+    };
+    if is_occupied(region, window) {
+        return Err(Refusal::WrongEntry);
     }
-    if is_occupied(memory, ledger, block, index, LINK_WORDS) {
-        return WRONG_ENTRY;
-    }
-    link_target_refusal(memory, ledger, target, table)
+    check_link_target(region, target, table)
 }
 
 // The word at the index, the count of the link, and the holder's mark (link leaves).
@@ -82,27 +83,24 @@ pub fn link(
     index: u32,
     target: u32,
     table: u32,
-) -> u32
-    ensures value { result ≡ (link_outcome (lent memory.old ledger.old) block index target table).answer }
+) -> Result<(), Refusal>
+    ensures value { answered result ≡ (link_outcome (lent memory.old ledger.old) block index target table).answer }
     ensures ledger_after { lent memory.new ledger.new ≡ (link_outcome (lent memory.old ledger.old) block index target table).after }
 {
-    let refusal = link_refusal(memory, ledger, block, index, target, table);
-    if refusal != ACCEPTED {
-        return refusal;
-    }
+    let region = Region::new(memory, ledger)?;
+    check_link(&region, block, index, target, table)?;
     let place = BLOCK_TABLES * target + table;
     let w = link_word(place);
-    write_entries(
-        Change::Added,
-        memory,
-        ledger,
+    let window = Window {
         block,
         index,
-        LINK_WORDS,
-        w,
-        Entry::Link(place),
-        target,
-        LINK_BLOCKS,
-    );
-    ACCEPTED
+        words: LINK_WORDS,
+    };
+    let spread = Spread {
+        entry: Entry::Link(place),
+        first: target,
+        blocks: LINK_BLOCKS,
+    };
+    write_entries(Change::Added, memory, ledger, window, w, spread);
+    Ok(())
 }

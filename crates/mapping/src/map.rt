@@ -5,95 +5,83 @@ ghost use Rattle.rules.specs.Refusals.{answer_of};
 ghost use Rattle.rules.specs.Store.{lent};
 ghost use Rattle.rules.specs.Tables as tables;
 ghost use Rattle.rules.specs.Map.{map_outcome, map_refusals};
+ghost use Rattle.ledger.specs.Refusals.{answered, given};
+ghost use Rattle.ledger.specs.Regions.{store_of};
 ghost use Rattle.mapping.specs.Meaning.{form_of};
 ghost use Rattle.mapping.specs.Pieces.{map_place_refusals};
 
-use crate::form::{Form, level, mapping, mapping_word, mapping_words, target_blocks};
+use crate::form::Form;
 use crate::request::Request;
-use crate::slot::{holder_refusal, is_occupied, write_entries};
-use crate::target::target_refusal;
+use crate::slot::{Spread, TableIndex, Window, is_occupied, write_entries};
+use crate::target::check_target;
 use entries::entry::Entry;
 use entries::rights::are_unlawful;
 use ledger::counters::Change;
-use ledger::image::image_refusal;
-use ledger::kinds::stored_kind;
+use ledger::image::check_image;
 use ledger::layout::KINDS;
-use ledger::marks::{hashed_blocks, mark_executed};
-use ledger::refusals::{ACCEPTED, BEYOND_TABLE, MISALIGNED, MISFIT, UNLAWFUL_RIGHTS, WRONG_ENTRY};
-use ledger::region::is_misfit_stored;
-use ledger::table::{place_refusal, table_entries};
+use ledger::marks::mark_executed;
+use ledger::refusals::Refusal;
+use ledger::region::Region;
+use ledger::table::table_entries;
 
-// Refusals 1 to 4: lengths, the image, the table, the target's alignment, the index and the number of the kind.
-fn map_place_refusal(
+// Refusals 1 to 4: the image, the table, the target's alignment, the index and the number of the kind.
+fn check_map_place(
+    region: &Region<'_>,
     form: Form,
-    memory: &[u8],
-    ledger: &[u8],
     golden: &[u8],
     request: Request,
-) -> u32
-    ensures { result ≡ answer_of (map_place_refusals (form_of form) golden.now (lent memory.now ledger.now) request.block request.index request.target request.kind) }
+) -> Result<(), Refusal>
+    ensures { answered result ≡ answer_of (map_place_refusals (form_of form) golden.now (store_of region.now) request.block request.index request.target request.kind) }
 {
-    if is_misfit_stored(memory, ledger) {
-        return MISFIT;
+    check_image(golden)?;
+    let level = form.level();
+    region.check_place(level, request.block)?;
+    if request.target % form.target_blocks() != 0 {
+        return Err(Refusal::Misaligned);
     }
-    let image = image_refusal(golden);
-    if image != ACCEPTED {
-        return image;
-    }
-    let level = level(form);
-    let place = place_refusal(level, memory, ledger, request.block);
-    if place != ACCEPTED {
-        return place;
-    }
-    if request.target % target_blocks(form) != 0 {
-        return MISALIGNED;
-    }
-    if request.index % mapping_words(form) != 0 {
-        return MISALIGNED;
+    if request.index % form.mapping_words() != 0 {
+        return Err(Refusal::Misaligned);
     }
     if table_entries(level) <= request.index {
-        return BEYOND_TABLE;
+        return Err(Refusal::BeyondTable);
     }
     if KINDS <= request.kind {
-        return BEYOND_TABLE;
+        return Err(Refusal::BeyondTable);
     }
-    ACCEPTED
+    Ok(())
 }
 
 // All refusals, with the new entry.
-fn map_refusal(
+fn check_map(
+    region: &Region<'_>,
     form: Form,
-    memory: &[u8],
-    ledger: &[u8],
     golden: &[u8],
     request: Request,
     e: Entry,
-) -> u32
+) -> Result<(), Refusal>
     requires { meaning e ≡ tables.mapping (form_of form) request.target request.rights 0 }
-    ensures { result ≡ answer_of (map_refusals (form_of form) golden.now (lent memory.now ledger.now) request.block request.index request.target request.rights request.kind) }
+    ensures { answered result ≡ answer_of (map_refusals (form_of form) golden.now (store_of region.now) request.block request.index request.target request.rights request.kind) }
 {
-    let place = map_place_refusal(form, memory, ledger, golden, request);
-    if place != ACCEPTED {
-        return place;
-    }
-    let level = level(form);
-    let holder = holder_refusal(level, memory, ledger, request.block, request.index);
-    if holder != ACCEPTED {
-        return holder;
-    }
-    if is_occupied(
-        memory,
-        ledger,
-        request.block,
-        request.index,
-        mapping_words(form),
-    ) {
-        return WRONG_ENTRY;
+    check_map_place(region, form, golden, request)?;
+    let at = TableIndex {
+        region: *region,
+        level: form.level(),
+        block: request.block,
+        index: request.index,
+    };
+    at.check_holder()?;
+    let window = Window {
+        block: request.block,
+        index: request.index,
+        words: form.mapping_words(),
+    };
+    if is_occupied(region, window) {
+        return Err(Refusal::WrongEntry);
     }
     if are_unlawful(request.rights) {
-        return UNLAWFUL_RIGHTS;
+        return Err(Refusal::UnlawfulRights);
     }
-    target_refusal(form, memory, ledger, golden, request, e)
+    check_target(region, form, golden, request, at.holder(), e)
 }
 
 // The words from the index on, the counts of the mapping, and the marks of the blocks to be executed (map leaves); and how many of these were hashed
@@ -104,34 +92,29 @@ pub fn map(
     ledger: &mut [u8],
     golden: &[u8],
     request: Request,
-    hashed: &mut u32,
-) -> u32
-    ensures value { result ≡ (map_outcome (form_of form) golden.now (lent memory.old ledger.old) request.block request.index request.target request.rights request.kind).answer }
-    ensures hashed_after { hashed.new ≡ (map_outcome (form_of form) golden.now (lent memory.old ledger.old) request.block request.index request.target request.rights request.kind).hashed }
+) -> Result<u32, Refusal>
+    ensures value { answered result ≡ (map_outcome (form_of form) golden.now (lent memory.old ledger.old) request.block request.index request.target request.rights request.kind).answer }
+    ensures hashed { given result ≡ (map_outcome (form_of form) golden.now (lent memory.old ledger.old) request.block request.index request.target request.rights request.kind).hashed }
     ensures ledger_after { lent memory.new ledger.new ≡ (map_outcome (form_of form) golden.now (lent memory.old ledger.old) request.block request.index request.target request.rights request.kind).after }
 {
-    let e = mapping(form, request.target, request.rights);
-    let refusal = map_refusal(form, memory, ledger, golden, request, e);
-    if refusal != ACCEPTED {
-        *hashed = 0;
-        return refusal;
-    }
-    let n = target_blocks(form);
-    *hashed = hashed_blocks(memory, ledger, e, request.target, n);
-    let kind = stored_kind(ledger, request.kind);
-    let w = mapping_word(form, kind, request.target, request.rights);
-    write_entries(
-        Change::Added,
-        memory,
-        ledger,
-        request.block,
-        request.index,
-        mapping_words(form),
-        w,
-        e,
-        request.target,
-        n,
-    );
+    let e = form.mapping(request.target, request.rights);
+    let region = Region::new(memory, ledger)?;
+    check_map(&region, form, golden, request, e)?;
+    let n = form.target_blocks();
+    let hashed = region.hashed_blocks(e, request.target, n);
+    let kind = region.kind(request.kind);
+    let w = form.mapping_word(kind, request.target, request.rights);
+    let window = Window {
+        block: request.block,
+        index: request.index,
+        words: form.mapping_words(),
+    };
+    let spread = Spread {
+        entry: e,
+        first: request.target,
+        blocks: n,
+    };
+    write_entries(Change::Added, memory, ledger, window, w, spread);
     mark_executed(memory, ledger, e, request.target, n);
-    ACCEPTED
+    Ok(hashed)
 }

@@ -5,22 +5,25 @@ ghost use Rattle.entries.specs.Entries as specified;
 ghost use Rattle.entries.specs.Meaning.{level_of, meaning};
 ghost use Rattle.rules.specs.Refusals.{answer_of};
 ghost use Rattle.rules.specs.Store as store;
-ghost use Rattle.rules.specs.Store.{base as stored_base, base_place, block_words, clear_mark, fill, ledger_head_bytes, lent};
+ghost use Rattle.rules.specs.Store.{base_place, block_words, clear_mark, fill, ledger_head_bytes, lent};
 ghost use Rattle.rules.specs.Tables.{table_entry, word_index};
 ghost use Rattle.rules.specs.General.{holder, occupied, recounted};
 ghost use Rattle.ledger.specs.Counters.{Spreads};
 ghost use Rattle.ledger.specs.Meaning.{change_of};
 ghost use Rattle.ledger.specs.Needs.{Countable, GrantsInside};
+ghost use Rattle.ledger.specs.Refusals.{answered};
+ghost use Rattle.ledger.specs.Regions.{store_of};
 ghost use Rattle.mapping.specs.Needs.{InTable, Slot};
 ghost use Rattle.mapping.specs.Pieces.{holder_refusals};
 
 use entries::decode::{entry_at, is_fault_at};
 use entries::entry::{Entry, Level};
 use ledger::counters::{Change, change_blocks};
-use ledger::layout::{BLOCK_WORDS, EXECUTABLE, base, record_of, record_word};
+use ledger::layout::{BLOCK_WORDS, Field, base, record_word};
 use ledger::marks::clear_mark;
-use ledger::refusals::{ACCEPTED, EXECUTABLE_HOLDER, WRONG_TYPE};
-use ledger::table::{is_other_type, table_type};
+use ledger::refusals::Refusal;
+use ledger::region::Region;
+use ledger::table::table_type;
 use words::{WORD_BYTES, put_word};
 
 // The place in the memory, in words, of an entry of the table at a block.
@@ -31,36 +34,63 @@ fn word_index(ledger: &[u8], block: u32, index: u32) -> usize
     (BLOCK_WORDS * (block - base(ledger)) + index) as usize
 }
 
-pub fn entry_in(level: Level, memory: &[u8], ledger: &[u8], block: u32, index: u32) -> Entry
-    requires { InTable (level_of level) (lent memory.now ledger.now) block index }
-    ensures { meaning result ≡ table_entry (level_of level) (lent memory.now ledger.now) block index }
-{
-    entry_at(level, memory, word_index(ledger, block, index))
+// An index of a table at a block of a region: the table lies in the region, and has an entry there.
+#[derive(Clone, Copy)]
+pub struct TableIndex<'a> {
+    pub region: Region<'a>,
+    pub level: Level,
+    pub block: u32,
+    pub index: u32,
+    ghost in_table: { InTable (level_of level) (store_of region) block index },
 }
 
-// Refusals 5 and 7 of the block that holds the entry.
-pub fn holder_refusal(level: Level, memory: &[u8], ledger: &[u8], block: u32, index: u32) -> u32
-    requires { InTable (level_of level) (lent memory.now ledger.now) block index }
-    ensures { result ≡ answer_of (holder_refusals (level_of level) (lent memory.now ledger.now) block index) }
-{
-    if is_other_type(level, memory, ledger, block, table_type(level)) {
-        return WRONG_TYPE;
+impl TableIndex<'_> {
+    // The block that holds the entry.
+    pub fn holder(&self) -> u32
+        ensures { result ≡ holder self.now.block self.now.index }
+    {
+        self.block + self.index / BLOCK_WORDS
     }
-    let b = record_of(ledger, block + index / BLOCK_WORDS);
-    if 0 < record_word(ledger, EXECUTABLE, b) {
-        return EXECUTABLE_HOLDER;
+
+    pub fn entry(&self) -> Entry
+        ensures { meaning result ≡ table_entry (level_of self.now.level) (store_of self.now.region) self.now.block self.now.index }
+    {
+        let j = word_index(self.region.ledger, self.block, self.index);
+        entry_at(self.level, self.region.memory, j)
     }
-    ACCEPTED
+
+    // Refusals 5 and 7 of the block that holds the entry.
+    pub fn check_holder(&self) -> Result<(), Refusal>
+        ensures { answered result ≡ answer_of (holder_refusals (level_of self.now.level) (store_of self.now.region) self.now.block self.now.index) }
+    {
+        let t = table_type(self.level);
+        if self.region.is_other_type(self.level, self.block, t) {
+            return Err(Refusal::WrongType);
+        }
+        let b = self.region.record_of(self.holder());
+        if 0 < record_word(self.region.ledger, Field::Executable, b) {
+            return Err(Refusal::ExecutableHolder);
+        }
+        Ok(())
+    }
 }
 
-// Some of the m entries from an index on is no fault, whatever the table's level.
-pub fn is_occupied(memory: &[u8], ledger: &[u8], block: u32, index: u32, m: u32) -> bool
-    requires { Slot (lent memory.now ledger.now) block index m }
-    ensures { (v : specified.Level) → result ≡ occupied v (lent memory.now ledger.now) block index m }
+// A window of a table: adjacent words, from an index on of the table at a block.
+#[derive(Clone, Copy)]
+pub struct Window {
+    pub block: u32,
+    pub index: u32,
+    pub words: u32,
+}
+
+// Some entry of the window is no fault, whatever the table's level.
+pub fn is_occupied(region: &Region<'_>, window: Window) -> bool
+    requires { Slot (store_of region.now) window.block window.index window.words }
+    ensures { (v : specified.Level) → result ≡ occupied v (store_of region.now) window.block window.index window.words }
 {
-    let j = word_index(ledger, block, index);
-    for k in 0..m as usize {
-        if !is_fault_at(memory, j + k) {
+    let j = word_index(region.ledger, window.block, window.index);
+    for k in 0..window.words as usize {
+        if !is_fault_at(region.memory, j + k) {
             return true;
         }
     }
@@ -81,30 +111,41 @@ fn fill_words(memory: &mut [u8], j: usize, m: usize, w: u32)
     }
 }
 
-// Writes the m words from an index on, clears the mark of the block that holds them, and adds what the entry e grants to the blocks from p on, or takes
-// it away: what the entries of these words give that are new, or stood there. The block's record by the number of the word, and not by `record_of`: so
-// this is small enough to be compiled into map, link and unmap.
+// What an entry grants, and the adjacent blocks to which it, or the mapping that begins with it, grants this.
+#[derive(Clone, Copy)]
+pub struct Spread {
+    pub entry: Entry,
+    pub first: u32,
+    pub blocks: u32,
+}
+
+// Writes w into the words of a window, clears the mark of the block that holds them, and adds what is spread to the counters, or takes it away: what the
+// entries of these words give that are new, or stood there. The block's record by the number of the word, and not by `record_of`: so this is small
+// enough to be compiled into map, link and unmap.
 pub fn write_entries(
     change: Change,
     memory: &mut [u8],
     ledger: &mut [u8],
-    block: u32,
-    index: u32,
-    m: u32,
+    window: Window,
     w: u32,
-    e: Entry,
-    p: u32,
-    n: u32,
+    spread: Spread,
 )
-    requires slot { Slot (lent memory.old ledger.old) block index m }
-    requires grants_inside { GrantsInside memory.old ledger.old (meaning e) p n }
-    requires countable { (c : store.Counter) → Countable (change_of change) ledger.old c (meaning e) p n }
-    ensures memory_after { memory.new ≡ fill memory.old (word_index (lent memory.old ledger.old) block index) m (λ k. w) }
-    ensures by_index { (l : ℕ) (x : ℕ → specified.Entry) → Spreads l x (meaning e) p n → ledger.new ≡ clear_mark (recounted (change_of change) (lent memory.old ledger.old) l x) (holder block index - stored_base (lent memory.old ledger.old)) }
+    requires slot { Slot (lent memory.old ledger.old) window.block window.index window.words }
+    requires grants_inside { GrantsInside memory.old ledger.old (meaning spread.entry) spread.first spread.blocks }
+    requires countable { (c : store.Counter) → Countable (change_of change) ledger.old c (meaning spread.entry) spread.first spread.blocks }
+    ensures memory_after { memory.new ≡ fill memory.old (word_index (lent memory.old ledger.old) window.block window.index) window.words (λ k. w) }
+    ensures by_index { (l : ℕ) (x : ℕ → specified.Entry) → Spreads l x (meaning spread.entry) spread.first spread.blocks → ledger.new ≡ clear_mark (recounted (change_of change) (lent memory.old ledger.old) l x) (holder window.block window.index - store.base (lent memory.old ledger.old)) }
 {
-    let j = word_index(ledger, block, index);
+    let j = word_index(ledger, window.block, window.index);
     let record = j / BLOCK_WORDS as usize;
-    change_blocks(change, memory, ledger, e, p, n);
+    change_blocks(
+        change,
+        memory,
+        ledger,
+        spread.entry,
+        spread.first,
+        spread.blocks,
+    );
     clear_mark(ledger, record);
-    fill_words(memory, j, m as usize, w);
+    fill_words(memory, j, window.words as usize, w);
 }

@@ -3,30 +3,26 @@ ghost use Rattle.std.specs.Prelude.{◌≡◌};
 ghost use Rattle.rules.specs.Refusals.{answer_of};
 ghost use Rattle.rules.specs.Store.{lent};
 ghost use Rattle.rules.specs.Switch.{switch_outcome, switch_refusals};
+ghost use Rattle.ledger.specs.Refusals.{answered};
+ghost use Rattle.ledger.specs.Regions.{store_of};
 
 use entries::entry::Level;
-use ledger::layout::{TYPE_L1, put_active};
-use ledger::refusals::{ACCEPTED, MISFIT};
-use ledger::region::is_misfit_stored;
-use ledger::table::table_refusal;
+use ledger::layout::{BlockType, put_active};
+use ledger::refusals::Refusal;
+use ledger::region::Region;
 
-fn switch_refusal(memory: &[u8], ledger: &[u8], block: u32) -> u32
-    ensures { result ≡ answer_of (switch_refusals (lent memory.now ledger.now) block) }
+fn check_switch(region: &Region<'_>, block: u32) -> Result<(), Refusal>
+    ensures { answered result ≡ answer_of (switch_refusals (store_of region.now) block) }
 {
-    if is_misfit_stored(memory, ledger) {
-        return MISFIT;
-    }
-    table_refusal(Level::L1, memory, ledger, block, TYPE_L1)
+    region.check_table(Level::L1, block, BlockType::L1)
 }
 
-pub fn switch(memory: &[u8], ledger: &mut [u8], block: u32) -> u32
-    ensures value { result ≡ (switch_outcome (lent memory.now ledger.old) block).answer }
+pub fn switch(memory: &[u8], ledger: &mut [u8], block: u32) -> Result<(), Refusal>
+    ensures value { answered result ≡ (switch_outcome (lent memory.now ledger.old) block).answer }
     ensures ledger_after { lent memory.now ledger.new ≡ (switch_outcome (lent memory.now ledger.old) block).after }
 {
-    let refusal = switch_refusal(memory, ledger, block);
-    if refusal != ACCEPTED {
-        return refusal;
-    }
+    let region = Region::new(memory, ledger)?;
+    check_switch(&region, block)?;
     put_active(ledger, block);
-    ACCEPTED
+    Ok(())
 }

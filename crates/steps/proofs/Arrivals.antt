@@ -1,21 +1,23 @@
 -- Laws of records that arrive in parts: what a list's records hold does not change when more bytes come behind them, and those that come
 -- are read as if they stood alone.
 use mathlib.Core.Bool.{Bool, true, false, not, cond, ◌||◌, false≢true}
-use mathlib.Core.List.{List, [], ◌∷◌, ◌++◌}
+use mathlib.Core.List.{List, ◌++◌}
 use mathlib.Core.Logic.{⊎_elim}
 use mathlib.Core.Option.{Option, none, some}
 use mathlib.Core.Path.{◌≡◌, refl, sym, ap, ◌∙◌}
 use Prim.Native.Nat.{ℕ, zero, suc, ◌+◌, ◌-◌, ◌*◌, ◌<◌, ◌≤◌}
 use native.Mathlib.Nat.{add-zero, zero-add, suc-add}
 use native.Mathlib.Omega.{arith}
-use lib.ListN.{length, get_or, drop, length-drop, length-append, get_or-append, get_or-eq_default, get_or-map}
+use lib.ListN.{length, get_or, take, drop, length-drop, length-append, get_or-append, get_or-eq_default, get_or-map}
 use lib.Seq.{get_or-drop, drop-append-le}
 use borrow.Author.Tests.{lt-ltb, le-ltb}
+use Rattle.std.specs.List.{slice_range}
+use Rattle.std.proofs.lemmas.List.{take-append-drop, length-take-le, get_or_default}
 use Rattle.words.proofs.Bounded.{below_or_above, or_left, or_right}
 use Rattle.words.specs.Bounded.{neqb}
 use Rattle.words.specs.Words.{word}
 use Rattle.rules.specs.Steps.{Step}
-use Rattle.steps.specs.Records.{record_bytes, call_place, calls, step_of, all_steps, short, whole_step, step_at, and_then, steps_from}
+use Rattle.steps.specs.Records.{record_bytes, call_place, calls, step_of, all_steps, short, unmarked, whole_step, step_at, and_then, steps_from}
 use Rattle.steps.specs.Spoilt.{spoilt}
 use Rattle.steps.specs.Turns.{is_step}
 use Rattle.steps.proofs.Decoding.{within_records}
@@ -62,8 +64,21 @@ step_prefix xs ys p h =
     step_same (xs ++ ys) xs p p (le-ltb (length (xs ++ ys)) (p + record_bytes) (omega arith) ∙ sym (le-ltb (length xs) (p + record_bytes) h))
     (λ k l. get_or-append xs ys 0 (p + k) (omega arith))
 
+-- the record at a place by the bytes of which it is made, taken by themselves
+pub step_alone : (xs : List ℕ) (p : ℕ) → p + record_bytes ≤ length xs
+    → (let part = slice_range xs p (p + record_bytes) in step_at xs p ≡ cond (unmarked part 0) none (whole_step part 0))
+unfolding step_at
+step_alone xs p h =
+    let rest = drop p xs in
+    let n : p + record_bytes - p ≡ record_bytes = omega arith in
+    let enough : record_bytes ≤ length rest = simp length-drop (omega arith) in
+    let fits : record_bytes ≤ length (take record_bytes rest) = rw length-take-le (omega arith) in
+    let shift : step_at rest 0 ≡ step_at xs p = rw add-zero at (step_shift xs p 0 (omega arith)) in
+    let short : step_at (take record_bytes rest) 0 ≡ step_at rest 0 = sym (rw take-append-drop at (step_prefix (take record_bytes rest) (drop record_bytes rest) 0 fits)) in
+    rw n (sym (short ∙ shift) ∙ rw (le-ltb (length (take record_bytes rest)) record_bytes fits) refl)
+
 -- where no whole record is left, there is no step
-step_short : (xs : List ℕ) (p : ℕ) → length xs < p + record_bytes → step_at xs p ≡ none
+pub step_short : (xs : List ℕ) (p : ℕ) → length xs < p + record_bytes → step_at xs p ≡ none
 unfolding step_at
 step_short xs p h = rw (lt-ltb (length xs) (p + record_bytes) h) refl
 
@@ -148,12 +163,6 @@ step_behind xs = rw zero-add at (behind xs 0 (length xs) (omega arith))
 
 -- Bytes that begin no record
 
--- what stands for an element that is there does not matter
-pub get_or_any : (xs : List ℕ) (i a b : ℕ) → i < length xs → get_or xs i a ≡ get_or xs i b
-get_or_any [] i a b h = let z : ⊥ = omega arith in absurd z
-get_or_any (x ∷ xs) zero a b h = refl
-get_or_any (x ∷ xs) (suc i) a b h = get_or_any xs i a b (omega arith)
-
 -- whether a call byte is listed does not depend on the words
 listed : (call a b c d : ℕ) → is_step (step_of call a b c d) ≡ is_step (step_of call 0 0 0 0)
 unfolding step_of is_step
@@ -172,9 +181,9 @@ unfolding step_at spoilt is_step
 whole_step_lem xs p h =
     rw (
       le-ltb (length xs) (p + record_bytes) h,
-      get_or_any xs p 0x50 0 (omega arith),
-      get_or_any xs (p + 1) 0x54 0 (omega arith),
-      get_or_any xs (p + call_place) 1 0 (omega arith),
+      get_or_default xs p 0x50 0 (omega arith),
+      get_or_default xs (p + 1) 0x54 0 (omega arith),
+      get_or_default xs (p + call_place) 1 0 (omega arith),
     )
     (go (neqb (get_or xs p 0) 0x50) (neqb (get_or xs (p + 1) 0) 0x54) (whole_step xs p) (listed (get_or xs (p + call_place) 0) _ _ _ _)) where
       go : (a b : Bool) (o : Option Step) {l : Bool} → is_step o ≡ l → is_step (cond (a || b) none o) ≡ not (a || b || not l)

@@ -11,10 +11,6 @@ use Rattle.words.proofs.Bounded.{or_false_left}
 use Rattle.rules.specs.Steps.{Step}
 use Rattle.steps.specs.Records.{calls, step_of, record_bytes, short, unmarked, step_at, and_then, steps_from}
 
--- a number that is none of those up to the next is above it
-pub next-above : {m n : ℕ} → m < n → (n ≡ suc m → ⊥) → suc m < n
-next-above l h = omega arith
-
 pub unlisted : (call a b c d : ℕ) → (0 < call → 16 < call) → none ≡ step_of call a b c d
 unfolding step_of
 unlisted zero a b c d h = refl

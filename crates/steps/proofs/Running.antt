@@ -34,20 +34,6 @@ module _ (golden records : List ℕ) (m : ℕ) (s₀ : Store) (answers₀ bytes�
       × ((answers ≡ put_list answers₀ 0 (run golden s₀ (steps_from records 0 m)).answers)
       × (bytes ≡ put_list bytes₀ 0 (run golden s₀ (steps_from records 0 m)).bytes)))
 
-  pub going_starts : Going 0 0 s₀ answers₀ bytes₀
-  going_starts =
-      let e : m - 0 ≡ m = omega arith in
-      record {
-        turns = omega arith;
-        place = omega arith;
-        answers_length = refl;
-        bytes_length = refl;
-        counted = rw e (omega arith);
-        reaching = rw e refl;
-        answering = rw e refl;
-        giving = rw e refl;
-      }
-
   -- the records from a place on, while there is room
   next : (i p : ℕ) → i < m → steps_from records p (m - i) ≡ and_then (step_at records p) (steps_from records (p + record_bytes) (m - (i + 1)))
   unfolding steps_from

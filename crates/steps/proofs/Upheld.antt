@@ -37,10 +37,13 @@ runner_upholds_demand3 golden s records answers₀ bytes₀ {n} {left} {answers}
 -- all that the runner promises, when its loop has ended
 pub promised : (golden : List ℕ) (s : Store) (records answers₀ bytes₀ : List ℕ) {m i : ℕ} {left : Store} {answers bytes : List ℕ}
     → m ≡ room answers₀ bytes₀ → Ended golden records m s answers₀ bytes₀ i left answers bytes
-    → (i ≡ length (steps_in records (room answers₀ bytes₀)))
-    × ((left ≡ (ran golden s records answers₀ bytes₀).reached)
-    × ((answers ≡ put_list answers₀ 0 (ran golden s records answers₀ bytes₀).answers)
-    × ((bytes ≡ put_list bytes₀ 0 (ran golden s records answers₀ bytes₀).bytes)
-    × Upholds golden s (steps_in records (room answers₀ bytes₀)) left (take i answers) (take i bytes))))
+    → record {
+      value : i ≡ length (steps_in records (room answers₀ bytes₀));
+      ledger_after : left ≡ (ran golden s records answers₀ bytes₀).reached;
+      answers_after : answers ≡ put_list answers₀ 0 (ran golden s records answers₀ bytes₀).answers;
+      bytes_after : bytes ≡ put_list bytes₀ 0 (ran golden s records answers₀ bytes₀).bytes;
+      upholds : Upholds golden s (steps_in records (room answers₀ bytes₀)) left (take i answers) (take i bytes);
+    }
 promised golden s records answers₀ bytes₀ e ended =
-    let (n, (l, (a, b))) = rw e at ended in (n, (l, (a, (b, runner_upholds_demand3 golden s records answers₀ bytes₀ n l a b))))
+    let (n, (l, (a, b))) = rw e at ended in
+    record { value = n; ledger_after = l; answers_after = a; bytes_after = b; upholds = runner_upholds_demand3 golden s records answers₀ bytes₀ n l a b }

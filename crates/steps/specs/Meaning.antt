@@ -1,4 +1,6 @@
 -- What the values of the enums in the code mean: a step, and what a record holds (RULES: forms, lists, runner).
+use Rattle.std.specs.Prelude as code
+use Rattle.std.specs.Prelude.{None, Some}
 use Rattle.std.proofs.Math.Option.{Option, none, some}
 use Rattle.entries.specs.Entries.{l1, l2}
 use Rattle.rules.specs.Tables.{sections, pages, larges}
@@ -10,8 +12,6 @@ use Rattle.rules.specs.Steps as steps
 use Rattle.rules.specs.Steps.{begins, creates, frees, maps, links, unmaps, switches, accesses}
 use Rattle.steps.specs.declared.step.Step as step
 use Rattle.steps.specs.declared.step.Step.TheVariants.{Begin, CreateL1, CreateL2, FreeL1, FreeL2, MapL1, MapL2, Link, UnmapL1, UnmapL2, Switch, Read, Write, Fetch, MapLarge, UnmapLarge}
-use Rattle.steps.specs.declared.records.Record as lists
-use Rattle.steps.specs.declared.records.Record.TheVariants.{Holds, Bad}
 
 -- forms 9, lists 1: the step that a value stands for
 abbrev pub meaning : step.Step → steps.Step
@@ -33,6 +33,6 @@ meaning (MapLarge block index target rights) = maps larges block index target ri
 meaning (UnmapLarge block index) = unmaps larges block index
 
 -- forms 9, runner 1: the step that a record holds, if any
-abbrev pub held : lists.Record → Option steps.Step
-held (Holds s) = some (meaning s)
-held Bad = none
+abbrev pub held : code.Option step.Step → Option steps.Step
+held (Some s) = some (meaning s)
+held None = none

@@ -1,6 +1,5 @@
 // One step: a call of the monitor with its arguments.
 ghost use Rattle.std.specs.Prelude.{◌≡◌};
-ghost use Rattle.rules.specs.Guest.{fetches, guest_outcome, reads, writes};
 ghost use Rattle.rules.specs.Registers.{clear_registers};
 ghost use Rattle.rules.specs.Steps.{obey};
 ghost use Rattle.rules.specs.Store.{lent};
@@ -10,7 +9,7 @@ ghost use Rattle.steps.specs.Meaning.{meaning};
 const CLEAR_REGISTERS: [u8; 17] = [0; 17];
 
 // The calls in the order of their call bytes, with their arguments in the order of a record's words.
-#[derive(Drop)]
+#[derive(Clone, Copy)]
 pub enum Step {
     Begin(u32),
     CreateL1(u32),
@@ -35,90 +34,42 @@ pub enum Step {
     UnmapLarge(u32, u32),
 }
 
-// A step's answer and the byte that it gives, 0 where it gives none.
-#[derive(Drop)]
+// A step's answer and the byte that it gives. Where it gives none, 0 stands there, as in the buffer of bytes that C lends.
+#[derive(Clone, Copy)]
 pub struct Reply {
     pub answer: u32,
     pub byte: u8,
 }
 
-// A reply that gives no byte.
-fn only(answer: u32) -> Reply
-    ensures answer_value { result.answer ≡ answer }
-    ensures byte_value { result.byte ≡ 0 }
-{
-    Reply { answer, byte: 0 }
-}
-
-// The guest's read, lent registers of its own, with the byte in its reply.
-fn read(memory: &[u8], ledger: &[u8], address: u32) -> Reply
-    ensures answer_value { result.answer ≡ (guest_outcome reads (lent memory.now ledger.now) clear_registers address).answer }
-    ensures byte_value { result.byte ≡ (guest_outcome reads (lent memory.now ledger.now) clear_registers address).byte }
-    ensures ledger_value { lent memory.now ledger.now ≡ (guest_outcome reads (lent memory.now ledger.now) clear_registers address).after }
-{
-    let mut registers = CLEAR_REGISTERS;
-    let mut byte = 0;
-    let answer = monitor::pagemon_read(memory, ledger, &mut registers, address, &mut byte);
-    Reply { answer, byte }
-}
-
-// The guest's fetch, in the same way.
-fn fetch(memory: &[u8], ledger: &[u8], address: u32) -> Reply
-    ensures answer_value { result.answer ≡ (guest_outcome fetches (lent memory.now ledger.now) clear_registers address).answer }
-    ensures byte_value { result.byte ≡ (guest_outcome fetches (lent memory.now ledger.now) clear_registers address).byte }
-    ensures ledger_value { lent memory.now ledger.now ≡ (guest_outcome fetches (lent memory.now ledger.now) clear_registers address).after }
-{
-    let mut registers = CLEAR_REGISTERS;
-    let mut byte = 0;
-    let answer = monitor::pagemon_fetch(memory, ledger, &mut registers, address, &mut byte);
-    Reply { answer, byte }
-}
-
-// The guest's write, lent such registers too.
-fn write(memory: &mut [u8], ledger: &mut [u8], address: u32, byte: u32) -> u32
-    ensures value { result ≡ (guest_outcome (writes byte) (lent memory.old ledger.old) clear_registers address).answer }
-    ensures ledger_after { lent memory.new ledger.new ≡ (guest_outcome (writes byte) (lent memory.old ledger.old) clear_registers address).after }
-{
-    let mut registers = CLEAR_REGISTERS;
-    monitor::pagemon_write(memory, ledger, &mut registers, address, byte)
-}
-
-// Obeys a step. How many blocks it hashed and what the registers tell is not handed on.
+// Obeys a step; a guest step is lent fault registers of its own. How many blocks it hashed and what the registers tell is not handed on.
+// Memory, ledger and image are three parameters, since each arm hands them to a call of the monitor one by one.
 pub fn obey(step: Step, memory: &mut [u8], ledger: &mut [u8], golden: &[u8]) -> Reply
     ensures answer_value { result.answer ≡ (obey golden.now (lent memory.old ledger.old) (meaning step)).answer }
     ensures byte_value { result.byte ≡ (obey golden.now (lent memory.old ledger.old) (meaning step)).byte }
     ensures ledger_after { lent memory.new ledger.new ≡ (obey golden.now (lent memory.old ledger.old) (meaning step)).after }
 {
+    let mut registers = CLEAR_REGISTERS;
+    let mut byte = 0;
     let mut hashed = 0;
-    match step {
-        Step::Begin(first) => only(monitor::pagemon_begin(memory, ledger, first)),
-        Step::CreateL1(block) => only(monitor::pagemon_create_l1(
+    let answer = match step {
+        Step::Begin(first) => monitor::pagemon_begin(memory, ledger, first),
+        Step::CreateL1(block) => monitor::pagemon_create_l1(
             memory,
             ledger,
             golden,
             block,
             &mut hashed,
-        )),
-        Step::CreateL2(block) => only(monitor::pagemon_create_l2(
+        ),
+        Step::CreateL2(block) => monitor::pagemon_create_l2(
             memory,
             ledger,
             golden,
             block,
             &mut hashed,
-        )),
-        Step::FreeL1(block) => only(monitor::pagemon_free_l1(memory, ledger, block)),
-        Step::FreeL2(block) => only(monitor::pagemon_free_l2(memory, ledger, block)),
-        Step::MapL1(block, index, target, rights) => only(monitor::pagemon_map_l1(
-            memory,
-            ledger,
-            golden,
-            block,
-            index,
-            target,
-            rights,
-            &mut hashed,
-        )),
-        Step::MapL2(block, index, target, rights) => only(monitor::pagemon_map_l2(
+        ),
+        Step::FreeL1(block) => monitor::pagemon_free_l1(memory, ledger, block),
+        Step::FreeL2(block) => monitor::pagemon_free_l2(memory, ledger, block),
+        Step::MapL1(block, index, target, rights) => monitor::pagemon_map_l1(
             memory,
             ledger,
             golden,
@@ -127,21 +78,45 @@ pub fn obey(step: Step, memory: &mut [u8], ledger: &mut [u8], golden: &[u8]) -> 
             target,
             rights,
             &mut hashed,
-        )),
-        Step::Link(block, index, target, table) => only(monitor::pagemon_link(
+        ),
+        Step::MapL2(block, index, target, rights) => monitor::pagemon_map_l2(
+            memory,
+            ledger,
+            golden,
+            block,
+            index,
+            target,
+            rights,
+            &mut hashed,
+        ),
+        Step::Link(block, index, target, table) => monitor::pagemon_link(
             memory, ledger, block, index, target, table,
-        )),
-        Step::UnmapL1(block, index) => only(monitor::pagemon_unmap_l1(
-            memory, ledger, block, index,
-        )),
-        Step::UnmapL2(block, index) => only(monitor::pagemon_unmap_l2(
-            memory, ledger, block, index,
-        )),
-        Step::Switch(block) => only(monitor::pagemon_switch(memory, ledger, block)),
-        Step::Read(address) => read(memory, ledger, address),
-        Step::Write(address, byte) => only(write(memory, ledger, address, byte)),
-        Step::Fetch(address) => fetch(memory, ledger, address),
-        Step::MapLarge(block, index, target, rights) => only(monitor::pagemon_map_large(
+        ),
+        Step::UnmapL1(block, index) => monitor::pagemon_unmap_l1(memory, ledger, block, index),
+        Step::UnmapL2(block, index) => monitor::pagemon_unmap_l2(memory, ledger, block, index),
+        Step::Switch(block) => monitor::pagemon_switch(memory, ledger, block),
+        Step::Read(address) => monitor::pagemon_read(
+            memory,
+            ledger,
+            &mut registers,
+            address,
+            &mut byte,
+        ),
+        Step::Write(address, byte) => monitor::pagemon_write(
+            memory,
+            ledger,
+            &mut registers,
+            address,
+            byte,
+        ),
+        Step::Fetch(address) => monitor::pagemon_fetch(
+            memory,
+            ledger,
+            &mut registers,
+            address,
+            &mut byte,
+        ),
+        Step::MapLarge(block, index, target, rights) => monitor::pagemon_map_large(
             memory,
             ledger,
             golden,
@@ -150,9 +125,10 @@ pub fn obey(step: Step, memory: &mut [u8], ledger: &mut [u8], golden: &[u8]) -> 
             target,
             rights,
             &mut hashed,
-        )),
-        Step::UnmapLarge(block, index) => only(monitor::pagemon_unmap_large(
+        ),
+        Step::UnmapLarge(block, index) => monitor::pagemon_unmap_large(
             memory, ledger, block, index,
-        )),
-    }
+        ),
+    };
+    Reply { answer, byte }
 }

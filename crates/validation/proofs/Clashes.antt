@@ -216,7 +216,7 @@ module _ (s : Store) (m : ℕ) (e : ℕ → Entry) where
         rw (member_is k l, is) refl)
 
   -- the set that a look at the entries gathered
-  module _ (members : List ℕ) {writes : ℕ} (gathered : AllGathered s m e members writes) where
+  module _ (members : List ℕ) {writes : Bool} (gathered : AllGathered s m e members writes) where
     just_executed : (k : ℕ) → k < blocks s → member members k ≡ any m (λ i. gives executable (e i) (base s + k))
     just_executed k l = gathered.joined k
 

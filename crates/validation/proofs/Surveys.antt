@@ -1,14 +1,16 @@
 -- What is found of a table is the greatest of what is found of its entries; and what it decides.
-use mathlib.Core.Bool.{Bool, true, false, cond, ◌||◌}
+use mathlib.Core.Bool.{Bool, true, false, cond, ◌||◌, or-false}
 use mathlib.Core.List.{List}
 use mathlib.Core.Logic.{◌≢◌}
 use mathlib.Core.Path.{◌≡◌, refl, sym, ◌∙◌, ap}
-use Prim.Native.Nat.{ℕ, ◌+◌, ◌<◌}
+use Prim.Native.Nat.{ℕ, zero, suc, ◌+◌, ◌<◌}
 use native.Mathlib.Omega.{arith}
 use lib.Dec.{ltb}
+use denote.Enum.Bare.{sameb}
 use borrow.Author.Tests.{le-ltb, ltb-true, ltb-false}
+use Rattle.std.specs.Ordering.{ord_max}
 use Rattle.words.specs.Bounded.{any}
-use Rattle.words.proofs.Bounded.{any_none, any_hit, any_found, any_step, flag_next}
+use Rattle.words.proofs.Bounded.{any_none, any_hit, any_found, flag_next}
 use Rattle.entries.specs.Entries.{Entry, fault, Level, is_fault, is_unaccepted, is_link, rights, place_blocks}
 use Rattle.entries.specs.Rights.{allows}
 use Rattle.rules.specs.Create.{misplaced, unfit_link, unfit_write}
@@ -17,7 +19,11 @@ use Rattle.rules.specs.Tables.{grants, gives, astray}
 use Rattle.rules.proofs.Gains.{fault_is}
 use Rattle.rules.proofs.State.{no_counter}
 use Rattle.ledger.proofs.Judge.{Decides, here, past, none}
-use Rattle.validation.specs.Findings.{greater, finding, entry_finding, target_finding, new_finding, place_finding, old_finding}
+use Rattle.validation.specs.Findings.{greater, finding, finding_of, entry_finding, target_finding, new_finding, place_finding, old_finding}
+use Rattle.validation.specs.contracts.finding.FindingOrd.TheImpl.{cmp-value}
+use Rattle.validation.specs.contracts.finding.Finding.{the_type}
+use Rattle.validation.specs.declared.finding.Finding as found
+use Rattle.validation.specs.declared.finding.Finding.TheVariants.{Fine, Executes, MeetsCount, Misplaced, Unaccepted}
 use Rattle.validation.specs.Pieces.{executed_entries, new_entries, old_entries}
 use Rattle.validation.specs.Sets.{Gathered, AllGathered, EmptySet}
 use Rattle.validation.specs.Tests.{meets, meets_count}
@@ -67,56 +73,62 @@ module _ (x y bound : ℕ) (small : greater x y < bound) where
     go true e l = l
     go false e l = omega (arith, ltb-false x y e)
 
--- what each of them says
-is_4 : (a b c d : Bool) → finding a b c d ≡ 4 → a ≡ true
-unfolding finding
-is_4 true b c d e = refl
-is_4 false true c d e = let z : ⊥ = omega arith in absurd z
-is_4 false false true d e = let z : ⊥ = omega arith in absurd z
-is_4 false false false true e = let z : ⊥ = omega arith in absurd z
-is_4 false false false false e = let z : ⊥ = omega arith in absurd z
+-- the greater of two findings
+pub greater_max : (a b : found.Finding) → finding_of (ord_max cmp-value.it a b) ≡ greater (finding_of a) (finding_of b)
+greater_max Fine Fine = refl
+greater_max Fine Executes = refl
+greater_max Fine MeetsCount = refl
+greater_max Fine Misplaced = refl
+greater_max Fine Unaccepted = refl
+greater_max Executes Fine = refl
+greater_max Executes Executes = refl
+greater_max Executes MeetsCount = refl
+greater_max Executes Misplaced = refl
+greater_max Executes Unaccepted = refl
+greater_max MeetsCount Fine = refl
+greater_max MeetsCount Executes = refl
+greater_max MeetsCount MeetsCount = refl
+greater_max MeetsCount Misplaced = refl
+greater_max MeetsCount Unaccepted = refl
+greater_max Misplaced Fine = refl
+greater_max Misplaced Executes = refl
+greater_max Misplaced MeetsCount = refl
+greater_max Misplaced Misplaced = refl
+greater_max Misplaced Unaccepted = refl
+greater_max Unaccepted Fine = refl
+greater_max Unaccepted Executes = refl
+greater_max Unaccepted MeetsCount = refl
+greater_max Unaccepted Misplaced = refl
+greater_max Unaccepted Unaccepted = refl
 
-not_4 : (a b c d : Bool) → finding a b c d ≢ 4 → a ≡ false
-unfolding finding
-not_4 true b c d n = absurd (n refl)
-not_4 false b c d n = refl
+-- a finding is the one by which a survey ends
+pub is_unaccepted_finding : (a : found.Finding) → sameb the_type a Unaccepted ≡ true → finding_of a ≡ 4
+is_unaccepted_finding Fine t = let z : true ≡ false = sym t in cc
+is_unaccepted_finding Executes t = let z : true ≡ false = sym t in cc
+is_unaccepted_finding MeetsCount t = let z : true ≡ false = sym t in cc
+is_unaccepted_finding Misplaced t = let z : true ≡ false = sym t in cc
+is_unaccepted_finding Unaccepted t = refl
 
-is_3 : (b c d : Bool) → finding false b c d ≡ 3 → b ≡ true
-unfolding finding
-is_3 true c d e = refl
-is_3 false true d e = let z : ⊥ = omega arith in absurd z
-is_3 false false true e = let z : ⊥ = omega arith in absurd z
-is_3 false false false e = let z : ⊥ = omega arith in absurd z
+-- what each of them says of the tests
+abbrev Says : ℕ → Bool → Bool → Bool → Type 0
+Says zero a b c = (a ≡ false) × (b ≡ false) × (c ≡ false)
+Says (suc zero) a b c = (a ≡ false) × (b ≡ false) × (c ≡ false)
+Says (suc (suc zero)) a b c = (a ≡ false) × (b ≡ false) × (c ≡ true)
+Says (suc (suc (suc zero))) a b c = (a ≡ false) × (b ≡ true)
+Says (suc (suc (suc (suc k)))) a b c = a ≡ true
 
-not_3 : (b c d : Bool) → finding false b c d ≢ 3 → b ≡ false
+says : (a b c d : Bool) {found : ℕ} → found ≡ finding a b c d → Says found a b c
 unfolding finding
-not_3 true c d n = absurd (n refl)
-not_3 false c d n = refl
+says true b c d e = rw e refl
+says false true c d e = rw e (refl, refl)
+says false false true d e = rw e (refl, refl, refl)
+says false false false true e = rw e (refl, refl, refl)
+says false false false false e = rw e (refl, refl, refl)
 
-is_2 : (c d : Bool) → finding false false c d ≡ 2 → c ≡ true
+idle : (d : Bool) → 0 ≡ finding false false false d → d ≡ false
 unfolding finding
-is_2 true d e = refl
-is_2 false true e = let z : ⊥ = omega arith in absurd z
-is_2 false false e = let z : ⊥ = omega arith in absurd z
-
-not_2 : (c d : Bool) → finding false false c d ≢ 2 → c ≡ false
-unfolding finding
-not_2 true d n = absurd (n refl)
-not_2 false d n = refl
-
-not_1 : (d : Bool) → finding false false false d ≢ 1 → d ≡ false
-unfolding finding
-not_1 true n = absurd (n refl)
-not_1 false n = refl
-
--- none that is a refusal
-pub finding_few : (a b c d : Bool) {found : ℕ} → found ≡ finding a b c d → found ≢ 4 → found ≢ 3 → found ≢ 2 → found < 2
-unfolding finding
-finding_few true b c d e n4 n3 n2 = absurd (n4 e)
-finding_few false true c d e n4 n3 n2 = absurd (n3 e)
-finding_few false false true d e n4 n3 n2 = absurd (n2 e)
-finding_few false false false true e n4 n3 n2 = omega arith
-finding_few false false false false e n4 n3 n2 = omega arith
+idle true e = let z : ⊥ = omega arith in absurd z
+idle false e = refl
 
 -- One entry
 
@@ -161,25 +173,30 @@ found_fault v s p e found h = sym (least found) ∙ ap (greater found) (of_fault
 -- What a look gathers
 
 -- an entry that grants nothing adds nothing
-pub gathers_nothing : (s : Store) (e : Entry) (members : List ℕ) {w : ℕ} → grants executable e ≡ false → grants writable e ≡ false → Gathered s e members members w w
-gathers_nothing s e members idle silent = record { joins = λ k. none_joins members (base s) e k idle; silent = λ z. (z, silent) }
+pub gathers_nothing : (s : Store) (e : Entry) (members : List ℕ) → grants executable e ≡ false → Gathered s e members members
+gathers_nothing s e members idle = record { joins = λ k. none_joins members (base s) e k idle }
 
-pub fault_gathers : (s : Store) (e : Entry) (members : List ℕ) {w : ℕ} → is_fault e ≡ true → Gathered s e members members w w
+pub fault_gathers : (s : Store) (e : Entry) (members : List ℕ) → is_fault e ≡ true → Gathered s e members members
 unfolding grants rights allows
-fault_gathers s e members h = rw (fault_is e h) (gathers_nothing s fault members refl refl)
+fault_gathers s e members h = rw (fault_is e h) (gathers_nothing s fault members refl)
 
-pub idle_gathers : (s : Store) (e : Entry) (members : List ℕ) {w : ℕ} → some_counter (λ c. grants c e) ≡ false → Gathered s e members members w w
-idle_gathers s e members idle = gathers_nothing s e members (no_counter (λ c. grants c e) idle executable) (no_counter (λ c. grants c e) idle writable)
+pub idle_gathers : (s : Store) (e : Entry) (members : List ℕ) → some_counter (λ c. grants c e) ≡ false → Gathered s e members members
+idle_gathers s e members idle = gathers_nothing s e members (no_counter (λ c. grants c e) idle executable)
 
-pub gathered_none : (s : Store) (e : ℕ → Entry) (members : List ℕ) (w : ℕ) → EmptySet members → AllGathered s 0 e members w
+-- a fault writes nothing
+pub fault_silent : (e : Entry) (writes : Bool) → is_fault e ≡ true → writes ≡ (writes || grants writable e)
+unfolding grants rights allows
+fault_silent e writes h = rw (fault_is e h) (sym (or-false writes))
+
+pub gathered_none : (s : Store) (e : ℕ → Entry) (members : List ℕ) → EmptySet members → AllGathered s 0 e members false
 unfolding any
-gathered_none s e members w empty = record { joined = empty; none_writes = λ z. refl }
+gathered_none s e members empty = record { joined = empty; written = refl }
 
-pub gathered_more : (s : Store) (i : ℕ) (e : ℕ → Entry) (members members' : List ℕ) {w w' : ℕ} → AllGathered s i e members w → Gathered s (e i) members members' w w' → AllGathered s (i + 1) e members' w'
-gathered_more s i e members members' before one =
+pub gathered_more : (s : Store) (i : ℕ) (e : ℕ → Entry) (members members' : List ℕ) {w w' : Bool} → AllGathered s i e members w → Gathered s (e i) members members' → w' ≡ (w || grants writable (e i)) → AllGathered s (i + 1) e members' w'
+gathered_more s i e members members' before one written =
     record {
       joined = λ k. flag_next (λ i. gives executable (e i) (base s + k)) i (before.joined k) (one.joins k);
-      none_writes = λ z. let (was, silent) = one.silent z in any_step (λ i. grants writable (e i)) i (before.none_writes was) silent;
+      written = flag_next (λ i. grants writable (e i)) i before.written written;
     }
 
 -- All of a table's entries: at one of an unaccepted form, and after one more
@@ -195,16 +212,16 @@ module _ (v : Level) (s : Store) (p m : ℕ) (e : ℕ → Entry) where
     more = rw (flag_next (λ i. is_unaccepted (e i)) i refl refl, flag_next (λ i. misplaced v s p (e i)) i refl refl, flag_next (λ i. meets_count s.ledger (e i)) i refl refl, flag_next (λ i. grants executable (e i)) i refl refl) refl
 
   -- an entry of an unaccepted form decides, whatever stands behind it
-  pub new_left : (i : ℕ) → i < m → new_finding v s p (i + 1) e ≡ 4 → 4 ≡ new_finding v s p m e
+  pub new_left : (i : ℕ) → i < m → 4 ≡ new_finding v s p (i + 1) e → 4 ≡ new_finding v s p m e
   unfolding finding
-  new_left i l h =
-      let (k, n, t) = any_found (λ i. is_unaccepted (e i)) (i + 1) (is_4 _ (any (i + 1) (λ i. misplaced v s p (e i))) (any (i + 1) (λ i. meets_count s.ledger (e i))) (any (i + 1) (λ i. grants executable (e i))) h) in
+  new_left i l is =
+      let (k, n, t) = any_found (λ i. is_unaccepted (e i)) (i + 1) (says _ (any (i + 1) (λ i. misplaced v s p (e i))) (any (i + 1) (λ i. meets_count s.ledger (e i))) (any (i + 1) (λ i. grants executable (e i))) is) in
       rw (any_hit (λ i. is_unaccepted (e i)) m k (omega arith) t) refl
 
 module _ (B n m : ℕ) (e : ℕ → Entry) where
-  pub old_left : {one : ℕ} (i : ℕ) → i < m → one ≡ place_finding B n (e i) → one ≡ 4 → 4 ≡ old_finding B n m e
+  pub old_left : (i : ℕ) → i < m → 4 ≡ place_finding B n (e i) → 4 ≡ old_finding B n m e
   unfolding finding
-  old_left i l is h = rw (any_hit (λ i. is_unaccepted (e i)) m i l (is_4 (is_unaccepted (e i)) (astray B n (e i)) false false (sym is ∙ h))) refl
+  old_left i l is = rw (any_hit (λ i. is_unaccepted (e i)) m i l (says (is_unaccepted (e i)) (astray B n (e i)) false false is)) refl
 
   pub old_start : 0 ≡ old_finding B n 0 e
   unfolding finding any
@@ -217,7 +234,7 @@ module _ (B n m : ℕ) (e : ℕ → Entry) where
 
 -- What they decide, one after the other
 
-module _ (v : Level) (golden : List ℕ) (s : Store) (p m : ℕ) (e : ℕ → Entry) {found : ℕ} (is : found ≡ new_finding v s p m e) where
+module _ (v : Level) (golden : List ℕ) (s : Store) (p m : ℕ) (e : ℕ → Entry) where
   abbrev bad : Bool
   bad = any m (λ i. is_unaccepted (e i))
 
@@ -230,71 +247,63 @@ module _ (v : Level) (golden : List ℕ) (s : Store) (p m : ℕ) (e : ℕ → En
   abbrev executing : Bool
   executing = any m (λ i. grants executable (e i))
 
-  pub new_unaccepted : found ≡ 4 → Decides (new_entries v golden s p m e) 8
-  new_unaccepted h = here (is_4 bad unplaced counted executing (sym is ∙ h))
+  pub new_unaccepted : 4 ≡ new_finding v s p m e → Decides (new_entries v golden s p m e) 8
+  new_unaccepted is = here (says bad unplaced counted executing is)
 
-  module _ (accepted : found ≢ 4) where
-    all_accepted : bad ≡ false
-    all_accepted = not_4 bad unplaced counted executing (λ h. accepted (is ∙ h))
+  pub new_misplaced : 3 ≡ new_finding v s p m e → Decides (new_entries v golden s p m e) 10
+  new_misplaced is = let (accepted, unfit) = says bad unplaced counted executing is in past accepted (here unfit)
 
+  pub new_counted : 2 ≡ new_finding v s p m e → Decides (new_entries v golden s p m e) 11
+  new_counted is =
+      let (accepted, fit, meet) = says bad unplaced counted executing is in
+      past accepted (past fit (here (clash-counted s m e (all_placed v s p m e fit) meet)))
+
+  -- something executes, and nothing is held against the entries
+  pub new_clear : 1 ≡ new_finding v s p m e → (bad ≡ false) × (unplaced ≡ false) × (counted ≡ false)
+  new_clear is = says bad unplaced counted executing is
+
+  -- where nothing is held against the entries, the rest is 11 and 12
+  module _ (accepted : bad ≡ false) (fit : unplaced ≡ false) (apart : counted ≡ false) where
     pub accepted_all : (i : ℕ) → i < m → is_unaccepted (e i) ≡ false
-    accepted_all = any_none (λ i. is_unaccepted (e i)) m all_accepted
+    accepted_all = any_none (λ i. is_unaccepted (e i)) m accepted
 
-    rest_3 : found ≡ finding false unplaced counted executing
-    rest_3 = is ∙ ap (λ (t : Bool). finding t unplaced counted executing) all_accepted
+    pub placed_all : (i : ℕ) → i < m → astray (base s) (blocks s) (e i) ≡ false
+    placed_all = all_placed v s p m e fit
 
-    pub new_misplaced : found ≡ 3 → Decides (new_entries v golden s p m e) 10
-    new_misplaced h = past all_accepted (here (is_3 unplaced counted executing (sym rest_3 ∙ h)))
+    new_rest : {a : ℕ} → Decides (executed_entries golden s m e) a → Decides (new_entries v golden s p m e) a
+    new_rest d = past accepted (past fit d)
 
-    module _ (fit : found ≢ 3) where
-      all_fit : unplaced ≡ false
-      all_fit = not_3 unplaced counted executing (λ h. fit (rest_3 ∙ h))
+    none_decides : executing ≡ false → Decides (new_entries v golden s p m e) 0
+    none_decides none_executes = new_rest (past (clash_none s m e placed_all apart none_executes) (past (unsigned_none s m e golden none_executes) none))
 
-      rest_2 : found ≡ finding false false counted executing
-      rest_2 = rest_3 ∙ ap (λ (t : Bool). finding false t counted executing) all_fit
+  pub new_executed : {a : ℕ} → 1 ≡ new_finding v s p m e → Decides (executed_entries golden s m e) a → Decides (new_entries v golden s p m e) a
+  new_executed is d = let (accepted, fit, apart) = says bad unplaced counted executing is in new_rest accepted fit apart d
 
-      pub placed_all : (i : ℕ) → i < m → astray (base s) (blocks s) (e i) ≡ false
-      placed_all = all_placed v s p m e all_fit
+  pub new_fine : 0 ≡ new_finding v s p m e → (executing ≡ false) × Decides (new_entries v golden s p m e) 0
+  new_fine is =
+      let (accepted, fit, apart) = says bad unplaced counted executing is in
+      let none_executes : executing ≡ false = idle executing (is ∙ (rw (accepted, fit, apart) refl)) in
+      (none_executes, none_decides accepted fit apart none_executes)
 
-      -- the rest is 11 and 12
-      pub new_rest : {a : ℕ} → Decides (executed_entries golden s m e) a → Decides (new_entries v golden s p m e) a
-      new_rest d = past all_accepted (past all_fit d)
-
-      pub new_counted : found ≡ 2 → Decides (new_entries v golden s p m e) 11
-      new_counted h = new_rest (here (clash-counted s m e placed_all (is_2 counted executing (sym rest_2 ∙ h))))
-
-      module _ (apart : found ≢ 2) where
-        pub uncounted : any m (λ i. meets_count s.ledger (e i)) ≡ false
-        uncounted = not_2 counted executing (λ h. apart (rest_2 ∙ h))
-
-        rest_1 : found ≡ finding false false false executing
-        rest_1 = rest_2 ∙ ap (λ (t : Bool). finding false false t executing) uncounted
-
-        pub none_executes : found ≢ 1 → any m (λ i. grants executable (e i)) ≡ false
-        none_executes h = not_1 executing (λ q. h (rest_1 ∙ q))
-
-        pub new_none : found ≢ 1 → Decides (new_entries v golden s p m e) 0
-        new_none h = new_rest (past (clash_none s m e placed_all uncounted (none_executes h)) (past (unsigned_none s m e golden (none_executes h)) none))
-
-module _ (s : Store) (m : ℕ) (e : ℕ → Entry) {found : ℕ} (is : found ≡ old_finding (base s) (blocks s) m e) where
+module _ (s : Store) (m : ℕ) (e : ℕ → Entry) where
   abbrev badly : Bool
   badly = any m (λ i. is_unaccepted (e i))
 
   abbrev outside_one : Bool
   outside_one = any m (λ i. astray (base s) (blocks s) (e i))
 
-  pub old_unaccepted : found ≡ 4 → Decides (old_entries s m e) 8
-  old_unaccepted h = here (is_4 badly outside_one false false (sym is ∙ h))
+  pub old_unaccepted : 4 ≡ old_finding (base s) (blocks s) m e → Decides (old_entries s m e) 8
+  old_unaccepted is = here (says badly outside_one false false is)
 
-  module _ (accepted : found ≢ 4) where
-    old_accepted : badly ≡ false
-    old_accepted = not_4 badly outside_one false false (λ h. accepted (is ∙ h))
+  pub old_astray : 3 ≡ old_finding (base s) (blocks s) m e → Decides (old_entries s m e) 10
+  old_astray is = let (accepted, stray) = says badly outside_one false false is in past accepted (here stray)
 
-    old_rest : found ≡ finding false outside_one false false
-    old_rest = is ∙ ap (λ (t : Bool). finding t outside_one false false) old_accepted
+  old_fit : (badly ≡ false) × (outside_one ≡ false) → Decides (old_entries s m e) 0
+  old_fit (accepted, inside) = past accepted (past inside none)
 
-    pub old_astray : found ≡ 3 → Decides (old_entries s m e) 10
-    old_astray h = past old_accepted (here (is_3 outside_one false false (sym old_rest ∙ h)))
-
-    pub old_none : found ≢ 3 → Decides (old_entries s m e) 0
-    old_none h = past old_accepted (past (not_3 outside_one false false (λ q. h (old_rest ∙ q))) none)
+  pub old_none : (f : found.Finding) → finding_of f ≡ old_finding (base s) (blocks s) m e → f ≢ Misplaced → f ≢ Unaccepted → Decides (old_entries s m e) 0
+  old_none Fine is fit accepted = let (a, b, c) = says badly outside_one false false is in old_fit (a, b)
+  old_none Executes is fit accepted = let (a, b, c) = says badly outside_one false false is in old_fit (a, b)
+  old_none MeetsCount is fit accepted = let (a, b, c) = says badly outside_one false false is in old_fit (a, b)
+  old_none Misplaced is fit accepted = absurd (fit refl)
+  old_none Unaccepted is fit accepted = absurd (accepted refl)

@@ -6,6 +6,16 @@ use Rattle.rules.specs.Create.{misplaced}
 use Rattle.rules.specs.Store.{Store, executable}
 use Rattle.rules.specs.Tables.{grants, astray}
 use Rattle.validation.specs.Tests.{unfit, meets_count}
+use Rattle.validation.specs.declared.finding.Finding as found
+use Rattle.validation.specs.declared.finding.Finding.TheVariants.{Fine, Executes, MeetsCount, Misplaced, Unaccepted}
+
+-- create 8, create 10, create 11, free 8, free 10: the number that stands for a finding
+abbrev pub finding_of : found.Finding → ℕ
+finding_of Fine = 0
+finding_of Executes = 1
+finding_of MeetsCount = 2
+finding_of Misplaced = 3
+finding_of Unaccepted = 4
 
 -- the greater of two numbers
 abbrev pub greater : ℕ → ℕ → ℕ

@@ -1,5 +1,5 @@
 -- A set of blocks of a region, by their places in it: block b is bit b % 8 of byte b / 8 (RULES: create, memory).
-use Rattle.std.specs.Prelude.{Bool, false, cond, not, ◌&&◌, ◌||◌, List, ◌≡◌, ℕ, ◌+◌, ◌*◌, ◌/◌, ◌%◌, ◌^◌, ◌<◌, ◌≤◌, eqb, get_or}
+use Rattle.std.specs.Prelude.{Bool, false, cond, not, ◌&&◌, ◌||◌, List, ◌≡◌, ℕ, ◌+◌, ◌/◌, ◌%◌, ◌^◌, ◌<◌, ◌≤◌, eqb, get_or, Option, None, Some}
 use Rattle.words.specs.Bounded.{any, count}
 use Rattle.entries.specs.Entries.{Entry, cover_first, cover_blocks}
 use Rattle.rules.specs.Signature.{unknown}
@@ -20,15 +20,14 @@ member members b = is_set (get_or members (b / 8) 0) (b % 8)
 unfoldable pub meets_members : List ℕ → List ℕ → Entry → Bool
 meets_members ledger members e = grants writable e && some_block (cover_first e) (cover_blocks e) (λ b. member members (record_of ledger b))
 
--- create 11, create 12: what one look at an entry adds: the blocks that it executes join the set, and a number that stays 0 says that it does not write
-pub record Gathered (s : Store) (e : Entry) (members members' : List ℕ) (writes writes' : ℕ) : Type 0 where
+-- create 11, create 12: what one look at an entry adds: the blocks that it executes join the set
+pub record Gathered (s : Store) (e : Entry) (members members' : List ℕ) : Type 0 where
   pub joins : (k : ℕ) → member members' k ≡ (member members k || gives executable e (base s + k))
-  pub silent : writes' ≡ 0 → (writes ≡ 0) × (grants writable e ≡ false)
 
--- create 11, create 12: what one look at each of the m entries e adds to an empty set and a 0
-pub record AllGathered (s : Store) (m : ℕ) (e : ℕ → Entry) (members : List ℕ) (writes : ℕ) : Type 0 where
+-- create 11, create 12: what one look at each of the m entries e adds to an empty set; and whether one of them writes
+pub record AllGathered (s : Store) (m : ℕ) (e : ℕ → Entry) (members : List ℕ) (writes : Bool) : Type 0 where
   pub joined : (k : ℕ) → member members k ≡ any m (λ i. gives executable (e i) (base s + k))
-  pub none_writes : writes ≡ 0 → any m (λ i. grants writable (e i)) ≡ false
+  pub written : writes ≡ any m (λ i. grants writable (e i))
 
 -- the set has no block
 abbrev pub EmptySet : List ℕ → Type 0
@@ -46,13 +45,9 @@ member_hashed ledger members b = member members b && not (eqb (record_word ledge
 abbrev pub InRegionOnly : Store → List ℕ → Type 0
 InRegionOnly s members = (b : ℕ) → blocks s ≤ b → member members b ≡ false
 
--- memory 1: more than any number of blocks
-abbrev pub some_unknown : ℕ
-some_unknown = 65536
-
--- create 12, calls 8: how many of the m blocks from b on are in the set and not marked; someUnknown if one of these is not signed
-unfoldable pub hash_number : List ℕ → Store → List ℕ → ℕ → ℕ → ℕ
-hash_number golden s members b m = cond (any m (λ k. member_unknown golden s members (b + k))) some_unknown (count m (λ k. member_hashed s.ledger members (b + k)))
+-- create 12, calls 8: how many of the m blocks from b on are in the set and not marked; none if one of these is not signed
+unfoldable pub hash_number : List ℕ → Store → List ℕ → ℕ → ℕ → Option ℕ
+hash_number golden s members b m = cond (any m (λ k. member_unknown golden s members (b + k))) None (Some (count m (λ k. member_hashed s.ledger members (b + k))))
 
 -- create leaves, calls 8: the set is that of the blocks that the m entries e execute, and k the number of those that are not marked
 pub record Admitted (s : Store) (m : ℕ) (e : ℕ → Entry) (members : List ℕ) (k : ℕ) : Type 0 where

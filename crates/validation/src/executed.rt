@@ -2,7 +2,7 @@
 // if some entry writes, and each block hashed once for 12, unless it is marked. And the marks of that set.
 ghost use Rattle.std.specs.Prelude.{◌||◌, cond, false, ◌≡◌, ℕ, ◌+◌, ◌<◌, ◌≤◌, IfOk};
 ghost use Rattle.words.specs.Bounded.{any, count};
-ghost use Rattle.entries.specs.Meaning.{level_of, meaning};
+ghost use Rattle.entries.specs.Meaning.{meaning};
 ghost use Rattle.rules.specs.Refusals.{answer_of};
 ghost use Rattle.rules.specs.Store as store;
 ghost use Rattle.rules.specs.Store.{executable, writable, mark_blocks, mark_value, mark_word, put_record_word};
@@ -11,14 +11,15 @@ ghost use Rattle.ledger.specs.Needs.{InLedger};
 ghost use Rattle.ledger.specs.Refusals.{answered};
 ghost use Rattle.ledger.specs.Regions.{store_of};
 ghost use Rattle.validation.specs.Sets.{Admitted, AllGathered, meets_members, member, member_hashed};
-ghost use Rattle.validation.specs.Needs.{InRegion, TablePlaced};
+ghost use Rattle.validation.specs.Needs.{InRegion};
 ghost use Rattle.validation.specs.Pieces.{executed_entries};
-ghost use Rattle.validation.specs.Tests.{entry_from, meets_count};
+ghost use Rattle.validation.specs.Tables.{InPlace, entries_of};
+ghost use Rattle.validation.specs.Tests.{meets_count};
 
-use crate::hash::{UNKNOWN, hash_members};
+use crate::hash::hash_members;
 use crate::set::BlockSet;
-use entries::decode::accepted_entry_at;
-use entries::entry::{Entry, Level};
+use crate::table::Table;
+use entries::entry::Entry;
 use ledger::counters::{Counter, grants};
 use ledger::marks::mark;
 use ledger::refusals::Refusal;
@@ -45,45 +46,6 @@ fn meets_members(region: &Region<'_>, members: &BlockSet, e: Entry) -> bool
         return members.contains_some(b, e.cover_blocks() as usize);
     }
     false
-}
-
-// Some of the m entries does.
-fn some_meets_members(
-    level: Level,
-    region: &Region<'_>,
-    members: &BlockSet,
-    j: usize,
-    m: usize,
-) -> bool
-    requires { TablePlaced (level_of level) region.now.memory.now region.now.ledger.now j m }
-    ensures { result ≡ any m (λ i. meets_members region.now.ledger.now members.now.bits (entry_from (level_of level) region.now.memory.now j i)) }
-{
-    for i in 0..m {
-        let e = accepted_entry_at(level, region.memory, j + i);
-        if meets_members(region, members, e) {
-            return true;
-        }
-    }
-    false
-}
-
-// The same. Where the number is 0 no entry writes, and so none a block of the set.
-fn some_clashes(
-    level: Level,
-    region: &Region<'_>,
-    members: &BlockSet,
-    writes: u32,
-    j: usize,
-    m: usize,
-) -> bool
-    requires table_placed { TablePlaced (level_of level) region.now.memory.now region.now.ledger.now j m }
-    requires i_value { writes ≡ 0 → any m (λ i. grants writable (entry_from (level_of level) region.now.memory.now j i)) ≡ false }
-    ensures { result ≡ any m (λ i. meets_members region.now.ledger.now members.now.bits (entry_from (level_of level) region.now.memory.now j i)) }
-{
-    if writes == 0 {
-        return false;
-    }
-    some_meets_members(level, region, members, j, m)
 }
 
 // Marks block b if it is in the set.
@@ -117,29 +79,47 @@ pub fn admit_members(ledger: &mut [u8], members: &BlockSet, n: usize, hashed: u3
     }
 }
 
-// Where no entry meets a count of the ledger, 11 is a matter among the entries, of which the set has the blocks that they execute. If neither 11 nor 12
-// applies, those that are not marked are counted.
-pub fn check_executed(
-    level: Level,
-    region: &Region<'_>,
-    golden: &[u8],
-    members: &BlockSet,
-    writes: u32,
-    j: usize,
-    m: usize,
-) -> Result<u32, Refusal>
-    requires table_placed { TablePlaced (level_of level) region.now.memory.now region.now.ledger.now j m }
-    requires all_gathered { AllGathered (store_of region.now) m (entry_from (level_of level) region.now.memory.now j) members.now.bits writes }
-    requires i_value { any m (λ i. meets_count region.now.ledger.now (entry_from (level_of level) region.now.memory.now j i)) ≡ false }
-    ensures value { answered result ≡ answer_of (executed_entries golden.now (store_of region.now) m (entry_from (level_of level) region.now.memory.now j)) }
-    ensures admitted { IfOk result (λ n. Admitted (store_of region.now) m (entry_from (level_of level) region.now.memory.now j) members.now.bits n) }
-{
-    if some_clashes(level, region, members, writes, j, m) {
-        return Err(Refusal::Clash);
+impl Table<'_> {
+    // Some entry does.
+    fn some_meets_members(&self, members: &BlockSet) -> bool
+        requires { InPlace self.now }
+        ensures { result ≡ any self.now.entries (λ i. meets_members self.now.region.ledger.now members.now.bits (entries_of self.now i)) }
+    {
+        // An index loop: a closure of two calls would have to state what each of them asks.
+        for i in 0..self.entries {
+            if meets_members(&self.region, members, self.accepted_entry(i)) {
+                return true;
+            }
+        }
+        false
     }
-    let number = hash_members(region, golden, members);
-    if number == UNKNOWN {
-        return Err(Refusal::Unsigned);
+
+    // The same, where it is known whether some entry writes.
+    fn some_clashes(&self, members: &BlockSet, writes: bool) -> bool
+        requires in_place { InPlace self.now }
+        requires written { writes ≡ any self.now.entries (λ i. grants writable (entries_of self.now i)) }
+        ensures { result ≡ any self.now.entries (λ i. meets_members self.now.region.ledger.now members.now.bits (entries_of self.now i)) }
+    {
+        writes && self.some_meets_members(members)
     }
-    Ok(number)
+
+    // Where no entry meets a count of the ledger, 11 is a matter among the entries, of which the set has the blocks that they execute. If neither 11 nor 12
+    // applies, those that are not marked are counted.
+    pub fn check_executed(
+        &self,
+        golden: &[u8],
+        members: &BlockSet,
+        writes: bool,
+    ) -> Result<u32, Refusal>
+        requires in_place { InPlace self.now }
+        requires all_gathered { AllGathered (store_of self.now.region) self.now.entries (entries_of self.now) members.now.bits writes }
+        requires uncounted { any self.now.entries (λ i. meets_count self.now.region.ledger.now (entries_of self.now i)) ≡ false }
+        ensures value { answered result ≡ answer_of (executed_entries golden.now (store_of self.now.region) self.now.entries (entries_of self.now)) }
+        ensures admitted { IfOk result (λ n. Admitted (store_of self.now.region) self.now.entries (entries_of self.now) members.now.bits n) }
+    {
+        if self.some_clashes(members, writes) {
+            return Err(Refusal::Clash);
+        }
+        hash_members(&self.region, golden, members).ok_or(Refusal::Unsigned)
+    }
 }

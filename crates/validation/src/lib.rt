@@ -8,4 +8,5 @@ pub mod hash; // hash.rt: the blocks of a set are hashed
 pub mod refusal; // refusal.rt: the refusals of a whole table
 pub mod set; // set.rt: a set of blocks
 pub mod survey; // survey.rt: one look at all the entries of a table
+pub mod table; // table.rt: the entries of a table
 pub mod target; // target.rt: tests of one entry against the ledger

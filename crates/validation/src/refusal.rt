@@ -5,14 +5,13 @@ ghost use Rattle.rules.specs.Refusals.{answer_of};
 ghost use Rattle.ledger.specs.Refusals.{answered};
 ghost use Rattle.ledger.specs.Regions.{store_of};
 ghost use Rattle.validation.specs.Needs.{HoldsWords};
-ghost use Rattle.validation.specs.Sets.{Admitted, EmptySet};
 ghost use Rattle.validation.specs.Pieces.{new_entries, old_entries};
+ghost use Rattle.validation.specs.Sets.{Admitted, EmptySet};
 ghost use Rattle.validation.specs.Tests.{entry_from};
 
-use crate::executed::check_executed;
-use crate::finding::{EXECUTES, MEETS_COUNT, MISPLACED, UNACCEPTED};
+use crate::finding::Finding;
 use crate::set::BlockSet;
-use crate::survey::{survey_new, survey_old};
+use crate::table::Table;
 use entries::entry::Level;
 use ledger::refusals::Refusal;
 use ledger::region::Region;
@@ -33,21 +32,20 @@ pub fn check_new_entries(
     ensures value { answered result ≡ answer_of (new_entries (level_of level) golden.now (store_of region.now) block m (entry_from (level_of level) region.now.memory.now j)) }
     ensures admitted { IfOk result (λ n. Admitted (store_of region.now) m (entry_from (level_of level) region.now.memory.now j) members.new.bits n) }
 {
-    let mut writes = 0;
-    let found = survey_new(level, region, members, &mut writes, block, j, m);
-    if found == UNACCEPTED {
-        return Err(Refusal::WrongEntry);
+    let table = Table {
+        level,
+        region: *region,
+        first: j,
+        entries: m,
+    };
+    let survey = table.survey_new(block, members);
+    match survey.found {
+        Finding::Unaccepted => Err(Refusal::WrongEntry),
+        Finding::Misplaced => Err(Refusal::UnfitTarget),
+        Finding::MeetsCount => Err(Refusal::Clash),
+        Finding::Executes => table.check_executed(golden, members, survey.writes),
+        Finding::Fine => Ok(0),
     }
-    if found == MISPLACED {
-        return Err(Refusal::UnfitTarget);
-    }
-    if found == MEETS_COUNT {
-        return Err(Refusal::Clash);
-    }
-    if found == EXECUTES {
-        return check_executed(level, region, golden, members, writes, j, m);
-    }
-    Ok(0)
 }
 
 // The table is freed.
@@ -60,12 +58,15 @@ pub fn check_old_entries(
     requires { HoldsWords region.now.memory.now j m }
     ensures { answered result ≡ answer_of (old_entries (store_of region.now) m (entry_from (level_of level) region.now.memory.now j)) }
 {
-    let found = survey_old(level, region, j, m);
-    if found == UNACCEPTED {
-        return Err(Refusal::WrongEntry);
+    let table = Table {
+        level,
+        region: *region,
+        first: j,
+        entries: m,
+    };
+    match table.survey_old() {
+        Finding::Unaccepted => Err(Refusal::WrongEntry),
+        Finding::Misplaced => Err(Refusal::UnfitTarget),
+        _ => Ok(()),
     }
-    if found == MISPLACED {
-        return Err(Refusal::UnfitTarget);
-    }
-    Ok(())
 }

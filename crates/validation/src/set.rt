@@ -5,8 +5,9 @@ ghost use Rattle.rules.specs.Store.{most_blocks};
 ghost use Rattle.validation.specs.Sets.{EmptySet, is_set, member};
 
 use ledger::layout::MOST_BLOCKS;
+use words::some_below;
 
-const BYTE_BITS: usize = 8;
+pub const BYTE_BITS: usize = 8;
 
 // The bytes of a set for any region.
 pub const SET_BYTES: usize = MOST_BLOCKS / BYTE_BITS;
@@ -69,11 +70,6 @@ impl BlockSet {
         requires { b + m ≤ most_blocks }
         ensures { result ≡ any m (λ i. member self.now.bits (b + i)) }
     {
-        for i in 0..m {
-            if self.contains(b + i) {
-                return true;
-            }
-        }
-        false
+        some_below(m, |i| self.contains(b + i))
     }
 }

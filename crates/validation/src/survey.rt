@@ -1,94 +1,87 @@
-// One look at a table: the greatest of what is found of its m entries, from word j of the memory on. It ends at an entry that is not accepted.
-ghost use Rattle.std.specs.Prelude.{◌≡◌, ◌<◌};
+// One look at a table: the greatest of what is found of its entries. It ends at an entry that is not accepted.
+ghost use Rattle.std.specs.Prelude.{◌||◌, ◌≡◌, ◌<◌};
 ghost use Rattle.entries.specs.Meaning.{level_of, meaning};
-ghost use Rattle.rules.specs.Store.{base, blocks};
+ghost use Rattle.rules.specs.Store.{base, blocks, writable};
+ghost use Rattle.rules.specs.Tables.{grants};
 ghost use Rattle.ledger.specs.Regions.{store_of};
-ghost use Rattle.validation.specs.Findings.{entry_finding, greater, new_finding, old_finding, place_finding};
-ghost use Rattle.validation.specs.Needs.{HoldsWords};
+ghost use Rattle.validation.specs.Findings.{entry_finding, finding_of, greater, new_finding, old_finding, place_finding};
 ghost use Rattle.validation.specs.Sets.{AllGathered, EmptySet, Gathered};
-ghost use Rattle.validation.specs.Tests.{entry_from};
+ghost use Rattle.validation.specs.Tables.{entries_of};
 
-use crate::finding::{FINE, MISPLACED, UNACCEPTED, greater};
+use crate::finding::Finding;
 use crate::set::BlockSet;
-use crate::target::entry_finding;
-use entries::decode::entry_at;
-use entries::entry::{Entry, Level};
-use ledger::region::Region;
+use crate::table::Table;
+use entries::entry::Entry;
+use ledger::counters::{Counter, grants};
 
-// The greater of what was found before and what is found of one more entry, of a table that is created at a block. Faults, which fill most tables, are told first.
-fn found_with(
-    level: Level,
-    region: &Region<'_>,
-    members: &mut BlockSet,
-    writes: &mut u32,
-    block: u32,
-    found: u32,
-    e: Entry,
-) -> u32
-    ensures value { result ≡ greater found (entry_finding (level_of level) (store_of region.now) block (meaning e)) }
-    ensures gathered { result < 2 → Gathered (store_of region.now) (meaning e) members.old.bits members.new.bits writes.old writes.new }
-{
-    if e.is_fault() {
-        return found;
-    }
-    greater(
-        found,
-        entry_finding(level, region, members, writes, block, e),
-    )
+// What is found of entries, and whether one of them writes.
+#[derive(Clone, Copy)]
+pub struct Survey {
+    pub found: Finding,
+    pub writes: bool,
 }
 
-// Of a table that is created at a block. Where nothing is held against its entries, the blocks that they execute are in the set, empty before, and
-// whether some entry writes is noted.
-pub fn survey_new(
-    level: Level,
-    region: &Region<'_>,
-    members: &mut BlockSet,
-    writes: &mut u32,
-    block: u32,
-    j: usize,
-    m: usize,
-) -> u32
-    requires holds_words { HoldsWords region.now.memory.now j m }
-    requires empty { EmptySet members.old.bits }
-    ensures value { result ≡ new_finding (level_of level) (store_of region.now) block m (entry_from (level_of level) region.now.memory.now j) }
-    ensures all_gathered { result < 2 → AllGathered (store_of region.now) m (entry_from (level_of level) region.now.memory.now j) members.new.bits writes.new }
-{
-    let mut found = FINE;
-    for i in 0..m {
-        let e = entry_at(level, region.memory, j + i);
-        found = found_with(level, region, members, writes, block, found, e);
-        if found == UNACCEPTED {
-            return UNACCEPTED;
+impl Table<'_> {
+    // The survey with one more entry of a table that is created at a block. Faults, which fill most tables, are told first.
+    fn survey_with(&self, block: u32, members: &mut BlockSet, survey: Survey, e: Entry) -> Survey
+        ensures value { finding_of result.found ≡ greater (finding_of survey.found) (entry_finding (level_of self.now.level) (store_of self.now.region) block (meaning e)) }
+        ensures written { result.writes ≡ (survey.writes || grants writable (meaning e)) }
+        ensures gathered { finding_of result.found < 2 → Gathered (store_of self.now.region) (meaning e) members.old.bits members.new.bits }
+    {
+        if e.is_fault() {
+            return survey;
+        }
+        Survey {
+            found: survey.found.max(self.entry_finding(block, members, e)),
+            writes: survey.writes || grants(Counter::Writable, e),
         }
     }
-    found
-}
 
-// What is found of one entry of a table that is freed.
-fn place_finding(region: &Region<'_>, e: Entry) -> u32
-    ensures { result ≡ place_finding (base (store_of region.now)) (blocks (store_of region.now)) (meaning e) }
-{
-    if e.is_unaccepted() {
-        return UNACCEPTED;
-    }
-    if region.is_astray(e) {
-        return MISPLACED;
-    }
-    FINE
-}
-
-// Of a table that is freed.
-pub fn survey_old(level: Level, region: &Region<'_>, j: usize, m: usize) -> u32
-    requires { HoldsWords region.now.memory.now j m }
-    ensures { result ≡ old_finding (base (store_of region.now)) (blocks (store_of region.now)) m (entry_from (level_of level) region.now.memory.now j) }
-{
-    let mut found = FINE;
-    for i in 0..m {
-        let one = place_finding(region, entry_at(level, region.memory, j + i));
-        if one == UNACCEPTED {
-            return UNACCEPTED;
+    // Of a table that is created at a block. Where nothing is held against its entries, the blocks that they execute are in the set, empty before, and
+    // whether some entry writes is told.
+    pub fn survey_new(&self, block: u32, members: &mut BlockSet) -> Survey
+        requires { EmptySet members.old.bits }
+        ensures value { finding_of result.found ≡ new_finding (level_of self.now.level) (store_of self.now.region) block self.now.entries (entries_of self.now) }
+        ensures all_gathered { finding_of result.found < 2 → AllGathered (store_of self.now.region) self.now.entries (entries_of self.now) members.new.bits result.writes }
+    {
+        let mut survey = Survey {
+            found: Finding::Fine,
+            writes: false,
+        };
+        for i in 0..self.entries {
+            survey = self.survey_with(block, members, survey, self.entry(i));
+            if survey.found == Finding::Unaccepted {
+                return survey;
+            }
         }
-        found = greater(found, one);
+        survey
     }
-    found
+
+    // What is found of one entry of a table that is freed.
+    fn place_finding(&self, e: Entry) -> Finding
+        ensures { finding_of result ≡ place_finding (base (store_of self.now.region)) (blocks (store_of self.now.region)) (meaning e) }
+    {
+        if e.is_unaccepted() {
+            return Finding::Unaccepted;
+        }
+        if self.region.is_astray(e) {
+            return Finding::Misplaced;
+        }
+        Finding::Fine
+    }
+
+    // Of a table that is freed.
+    pub fn survey_old(&self) -> Finding
+        ensures { finding_of result ≡ old_finding (base (store_of self.now.region)) (blocks (store_of self.now.region)) self.now.entries (entries_of self.now) }
+    {
+        let mut found = Finding::Fine;
+        for i in 0..self.entries {
+            let one = self.place_finding(self.entry(i));
+            if one == Finding::Unaccepted {
+                return one;
+            }
+            found = found.max(one);
+        }
+        found
+    }
 }

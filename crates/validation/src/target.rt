@@ -1,22 +1,21 @@
 // Tests of one entry against the ledger (create 8, create 10, create 11), and what a look at it adds to the set.
-ghost use Rattle.std.specs.Prelude.{false, ◌≡◌, ◌<◌};
+ghost use Rattle.std.specs.Prelude.{◌≡◌, ◌<◌};
 ghost use Rattle.entries.specs.Meaning.{level_of, meaning};
 ghost use Rattle.rules.specs.Create.{unfit_link, unfit_write};
-ghost use Rattle.rules.specs.Store.{writable};
-ghost use Rattle.rules.specs.Tables.{grants};
 ghost use Rattle.ledger.specs.Meaning.{counter_of};
 ghost use Rattle.ledger.specs.Needs.{EntryRecorded};
 ghost use Rattle.ledger.specs.Regions.{store_of};
-ghost use Rattle.validation.specs.Findings.{entry_finding, target_finding};
+ghost use Rattle.validation.specs.Findings.{entry_finding, finding_of, target_finding};
 ghost use Rattle.validation.specs.Needs.{InRegion};
 ghost use Rattle.validation.specs.Sets.{Gathered};
 ghost use Rattle.validation.specs.Tests.{meets, meets_count, unfit};
 
 use crate::cover::{cover_counts, cover_differs, overlap};
 use crate::executed::insert_executed;
-use crate::finding::{EXECUTES, FINE, MEETS_COUNT, MISPLACED, UNACCEPTED};
+use crate::finding::Finding;
 use crate::set::BlockSet;
-use entries::entry::{Entry, Level};
+use crate::table::Table;
+use entries::entry::Entry;
 use ledger::counters::{Counter, grants, grants_some};
 use ledger::layout::BlockType;
 use ledger::region::Region;
@@ -31,36 +30,6 @@ fn is_unfit_link(region: &Region<'_>, e: Entry) -> bool
         return cover_differs(region, e, BlockType::L2);
     }
     false
-}
-
-// Write to a block that is no data, or belongs to the new table (create 10).
-fn is_unfit_write(level: Level, region: &Region<'_>, block: u32, e: Entry) -> bool
-    requires { EntryRecorded region.now.ledger.now (meaning e) }
-    ensures { result ≡ unfit_write (level_of level) (store_of region.now) block (meaning e) }
-{
-    if !grants(Counter::Writable, e) {
-        return false;
-    }
-    if cover_differs(region, e, BlockType::Data) {
-        return true;
-    }
-    overlap(
-        e.cover_first(),
-        e.cover_blocks(),
-        block,
-        table_blocks(level),
-    )
-}
-
-// Its target is unfit.
-fn is_unfit(level: Level, region: &Region<'_>, block: u32, e: Entry) -> bool
-    requires { EntryRecorded region.now.ledger.now (meaning e) }
-    ensures { result ≡ unfit (level_of level) (store_of region.now) block (meaning e) }
-{
-    if is_unfit_link(region, e) {
-        return true;
-    }
-    is_unfit_write(level, region, block, e)
 }
 
 // The entry grants one thing to a block that is counted for another.
@@ -85,63 +54,71 @@ fn meets_count(region: &Region<'_>, e: Entry) -> bool
     meets(region, Counter::Executable, Counter::Writable, e)
 }
 
-// A number that stays 0 says that the entry does not write.
-fn note_write(writes: &mut u32, e: Entry)
-    ensures { writes.new ≡ 0 → (writes.old ≡ 0) × (grants writable (meaning e) ≡ false) }
-{
-    if grants(Counter::Writable, e) {
-        *writes = 1;
+impl Table<'_> {
+    // Write to a block that is no data, or belongs to the table, which is created at a block (create 10).
+    fn is_unfit_write(&self, block: u32, e: Entry) -> bool
+        requires { EntryRecorded self.now.region.ledger.now (meaning e) }
+        ensures { result ≡ unfit_write (level_of self.now.level) (store_of self.now.region) block (meaning e) }
+    {
+        if !grants(Counter::Writable, e) {
+            return false;
+        }
+        if cover_differs(&self.region, e, BlockType::Data) {
+            return true;
+        }
+        overlap(
+            e.cover_first(),
+            e.cover_blocks(),
+            block,
+            table_blocks(self.level),
+        )
     }
-}
 
-// What is found of the target of an accepted entry whose place is in the region. Where nothing is held against it, the blocks that it executes join the
-// set, and that it writes is noted.
-fn target_finding(
-    level: Level,
-    region: &Region<'_>,
-    members: &mut BlockSet,
-    writes: &mut u32,
-    block: u32,
-    e: Entry,
-) -> u32
-    requires { InRegion region.now.memory.now region.now.ledger.now (meaning e) × EntryRecorded region.now.ledger.now (meaning e) }
-    ensures value { result ≡ target_finding (level_of level) (store_of region.now) block (meaning e) }
-    ensures gathered { result < 2 → Gathered (store_of region.now) (meaning e) members.old.bits members.new.bits writes.old writes.new }
-{
-    if is_unfit(level, region, block, e) {
-        return MISPLACED;
+    // Its target is unfit.
+    fn is_unfit(&self, block: u32, e: Entry) -> bool
+        requires { EntryRecorded self.now.region.ledger.now (meaning e) }
+        ensures { result ≡ unfit (level_of self.now.level) (store_of self.now.region) block (meaning e) }
+    {
+        if is_unfit_link(&self.region, e) {
+            return true;
+        }
+        self.is_unfit_write(block, e)
     }
-    if meets_count(region, e) {
-        return MEETS_COUNT;
-    }
-    note_write(writes, e);
-    if grants(Counter::Executable, e) {
-        insert_executed(region, members, e);
-        return EXECUTES;
-    }
-    FINE
-}
 
-// What is found of one entry of a table that is created at a block.
-pub fn entry_finding(
-    level: Level,
-    region: &Region<'_>,
-    members: &mut BlockSet,
-    writes: &mut u32,
-    block: u32,
-    e: Entry,
-) -> u32
-    ensures value { result ≡ entry_finding (level_of level) (store_of region.now) block (meaning e) }
-    ensures gathered { result < 2 → Gathered (store_of region.now) (meaning e) members.old.bits members.new.bits writes.old writes.new }
-{
-    if e.is_unaccepted() {
-        return UNACCEPTED;
+    // What is found of the target of an accepted entry whose place is in the region. Where nothing is held against it, the blocks that it executes join
+    // the set.
+    fn target_finding(&self, block: u32, members: &mut BlockSet, e: Entry) -> Finding
+        requires { InRegion self.now.region.memory.now self.now.region.ledger.now (meaning e) × EntryRecorded self.now.region.ledger.now (meaning e) }
+        ensures value { finding_of result ≡ target_finding (level_of self.now.level) (store_of self.now.region) block (meaning e) }
+        ensures gathered { finding_of result < 2 → Gathered (store_of self.now.region) (meaning e) members.old.bits members.new.bits }
+    {
+        if self.is_unfit(block, e) {
+            return Finding::Misplaced;
+        }
+        if meets_count(&self.region, e) {
+            return Finding::MeetsCount;
+        }
+        if grants(Counter::Executable, e) {
+            insert_executed(&self.region, members, e);
+            return Finding::Executes;
+        }
+        Finding::Fine
     }
-    if region.is_astray(e) {
-        return MISPLACED;
+
+    // What is found of one entry of a table that is created at a block.
+    pub fn entry_finding(&self, block: u32, members: &mut BlockSet, e: Entry) -> Finding
+        ensures value { finding_of result ≡ entry_finding (level_of self.now.level) (store_of self.now.region) block (meaning e) }
+        ensures gathered { finding_of result < 2 → Gathered (store_of self.now.region) (meaning e) members.old.bits members.new.bits }
+    {
+        if e.is_unaccepted() {
+            return Finding::Unaccepted;
+        }
+        if self.region.is_astray(e) {
+            return Finding::Misplaced;
+        }
+        if grants_some(e) {
+            return self.target_finding(block, members, e);
+        }
+        Finding::Fine
     }
-    if grants_some(e) {
-        return target_finding(level, region, members, writes, block, e);
-    }
-    FINE
 }

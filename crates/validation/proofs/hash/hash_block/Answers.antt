@@ -26,13 +26,6 @@ overflow_add-first c =
     let l = member_inside (store_of at.args.region.now) at.args.members.now.bits at.requires.0 at.args.b (told c.contains.ensures c.if-not-contains.false) in
     omega (arith, c.base-first.ensures)
 
-pub is_signed_block-requires : goal.is_signed_block-requires
-is_signed_block-requires c =
-    let at = c in
-    let fit = fits_stored _ at.args.region.now.fits in
-    let l = member_inside (store_of at.args.region.now) at.args.members.now.bits at.requires.0 at.args.b (told c.contains.ensures c.if-not-contains.false) in
-    rw c.base-first.ensures (omega arith, omega arith)
-
 pub returns-then-is_signed_block : goal.returns-then-is_signed_block
 returns-then-is_signed_block c =
     block_signed _ _ _ _ (told c.contains.ensures c.if-not-contains.false) (told c.is_marked.ensures c.if-is_marked.false)

@@ -7,29 +7,17 @@ use Rattle.validation.proofs.hash.hash_eight.Goals as goal
 pub loop-k-init : goal.loop-k-init
 loop-k-init c = (omega arith, known_start _ _ _ _)
 
-pub overflow_mul-i : goal.overflow_mul-i
-overflow_mul-i c = omega (arith, c.requires.1)
-
-pub overflow_add-i : goal.overflow_add-i
-overflow_add-i c = omega (arith, c.requires.1)
-
-pub hash_block-x-requires : goal.hash_block-x-requires
-hash_block-x-requires c = let pre = c.requires in (pre.0, omega (arith, pre.1))
-
-pub returns-then-x-eq-UNKNOWN : goal.returns-then-x-eq-UNKNOWN
-returns-then-x-eq-UNKNOWN c =
-    let at = c in
-    let from = 8 * c.args.i in
-    unknown-among _ _ _ from 8 (from + at.loop-k.k) 1 (omega arith) (omega arith) (omega arith) c.hash_block-x.ensures c.if-x-eq-UNKNOWN.true
+pub returns-in_err-n : goal.returns-in_err-n
+returns-in_err-n c = let from = 8 * c.args.i in rw c.from_residual.ensures (unknown-among _ _ _ from 8 (from + c.loop-k.k) 1 (omega arith) (omega arith) c.in_err-n.ensures)
 
 pub overflow_add-n : goal.overflow_add-n
 overflow_add-n c =
-    let next = known_most _ _ _ (answer_known _ _ _ _ 1 c.hash_block-x.ensures c.if-x-eq-UNKNOWN.false) in
+    let next = known_most _ _ _ (answer_known _ _ _ _ 1 c.in_ok-n.ensures) in
     let passed = known_most _ _ _ c.loop-k.invariant.1 in
     omega arith
 
 pub loop-k-preserved : goal.loop-k-preserved
-loop-k-preserved c = (omega arith, known_next _ _ _ _ c.loop-k.k _ 1 _ (omega arith) (omega arith) c.loop-k.invariant.1 c.hash_block-x.ensures c.if-x-eq-UNKNOWN.false)
+loop-k-preserved c = (omega arith, known_next _ _ _ _ c.loop-k.k _ 1 _ (omega arith) (omega arith) c.loop-k.invariant.1 c.in_ok-n.ensures)
 
 pub returns : goal.returns
 returns c = let e : c.loop-k.k ≡ 8 = omega arith in known_answer _ _ _ (rw e at c.loop-k.invariant.1)

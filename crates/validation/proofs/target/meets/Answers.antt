@@ -3,9 +3,6 @@ use Rattle.words.proofs.Bounded.{told}
 use Rattle.validation.specs.Tests.{meets}
 use Rattle.validation.proofs.target.meets.Goals as goal
 
-pub cover_counts-requires : goal.cover_counts-requires
-cover_counts-requires c = c.requires _ (told c.grants.ensures c.if-grants.true)
-
 pub returns-then-grants : goal.returns-then-grants
 unfolding meets
 returns-then-grants c = rw (told c.grants.ensures c.if-grants.true) c.cover_counts.ensures

@@ -1,0 +1,39 @@
+// A table: words of a region's memory, each an entry.
+ghost use Rattle.std.specs.Prelude.{false, ◌≡◌, ◌<◌};
+ghost use Rattle.entries.specs.Entries.{is_unaccepted};
+ghost use Rattle.entries.specs.Meaning.{meaning};
+ghost use Rattle.validation.specs.Needs.{HoldsWords};
+
+use entries::decode::{accepted_entry_at, entry_at};
+use entries::entry::{Entry, Level};
+use ledger::region::Region;
+
+// The entries of a table of a level, from word `first` of the memory on.
+#[derive(Clone, Copy)]
+pub struct Table<'a> {
+    pub level: Level,
+    pub region: Region<'a>,
+    pub first: usize,
+    pub entries: usize,
+    ghost holds_words: { HoldsWords region.memory.now first entries },
+}
+
+impl Table<'_> {
+    ghost use Rattle.validation.specs.Tables.{entries_of};
+
+    pub fn entry(&self, i: usize) -> Entry
+        requires { i < self.now.entries }
+        ensures { meaning result ≡ entries_of self.now i }
+    {
+        entry_at(self.level, self.region.memory, self.first + i)
+    }
+
+    // The same, where it is known that it is accepted.
+    pub fn accepted_entry(&self, i: usize) -> Entry
+        requires inside { i < self.now.entries }
+        requires accepted { is_unaccepted (entries_of self.now i) ≡ false }
+        ensures { meaning result ≡ entries_of self.now i }
+    {
+        accepted_entry_at(self.level, self.region.memory, self.first + i)
+    }
+}
