@@ -9,18 +9,18 @@ const UNACCEPTED_AP: u32 = 0b100;
 
 // The lowest bit of each field. AP has its third bit apart, and nG stands above S. B and C, which stand at bit 2 of each form, are left out.
 #[derive(Clone, Copy)]
-pub struct Layout {
+pub(crate) struct Layout {
     // Bits 1..0.
-    pub form: u32,
-    pub ap: u32,
-    pub ap_high: u32,
-    pub xn: u32,
-    pub tex: u32,
-    pub s: u32,
+    pub(crate) form: u32,
+    pub(crate) ap: u32,
+    pub(crate) ap_high: u32,
+    pub(crate) xn: u32,
+    pub(crate) tex: u32,
+    pub(crate) s: u32,
     ghost in_word: { (form < 4) × (ap ≤ 10) × (ap_high ≤ 15) × (xn ≤ 15) × (tex ≤ 12) × (s ≤ 16) },
 }
 
-pub const SECTION: Layout = Layout {
+pub(crate) const SECTION: Layout = Layout {
     form: 0b10,
     ap: 10,
     ap_high: 15,
@@ -30,7 +30,7 @@ pub const SECTION: Layout = Layout {
 };
 
 // XN is bit 0 of the form.
-pub const PAGE: Layout = Layout {
+pub(crate) const PAGE: Layout = Layout {
     form: 0b10,
     ap: 4,
     ap_high: 9,
@@ -39,7 +39,7 @@ pub const PAGE: Layout = Layout {
     s: 10,
 };
 
-pub const LARGE: Layout = Layout {
+pub(crate) const LARGE: Layout = Layout {
     form: 0b01,
     ap: 4,
     ap_high: 9,
@@ -50,21 +50,21 @@ pub const LARGE: Layout = Layout {
 
 impl Layout {
     // The access bits of a word of this form.
-    pub fn access(self, w: u32) -> u32
+    pub(crate) fn access(self, w: u32) -> u32
         ensures { result ≡ 4 * bits w self.ap_high 1 + bits w self.ap 2 }
     {
         4 * words::bits(w, self.ap_high, 1) + words::bits(w, self.ap, 2)
     }
 
     // They are accepted (entries 9).
-    pub fn is_accepted(self, w: u32) -> bool
+    pub(crate) fn is_accepted(self, w: u32) -> bool
         ensures { result ≡ accepted_ap (4 * bits w self.ap_high 1 + bits w self.ap 2) }
     {
         self.access(w) != UNACCEPTED_AP
     }
 
     // The rights that they give, with the execute-never bit.
-    pub fn rights(self, w: u32) -> u32
+    pub(crate) fn rights(self, w: u32) -> u32
         ensures { result ≡ rights_of (4 * bits w self.ap_high 1 + bits w self.ap 2) (bits w self.xn 1) }
     {
         rights_of(self.access(w), words::bits(w, self.xn, 1))

@@ -1,5 +1,5 @@
 -- `entries::decode::word_code` meets its contract: the table has the page rights of a page's bits 9..0, and low bits tell the rest.
-use mathlib.Core.Path.{◌≡◌, sym, ◌∙◌}
+use mathlib.Core.Path.{sym, ◌∙◌}
 use Prim.Native.Nat.{◌<◌}
 use native.Mathlib.Omega.{arith}
 use Rattle.words.proofs.Fields.{bits_low}
