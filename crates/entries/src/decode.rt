@@ -8,15 +8,14 @@ ghost use Rattle.entries.specs.Meaning.{level_of, meaning};
 ghost use Rattle.entries.specs.Needs.{HoldsRun, HoldsWord, accepted_at, has_page_bit};
 
 use crate::entry::{Entry, LARGE_BLOCKS, Level, Mapping, SECTION_BLOCKS};
-use crate::layout::{LARGE, PAGE, SECTION};
+use crate::layout::{LARGE, LINK_FORM, PAGE, SECTION};
 use crate::table::page_rights_at;
 use words::WORD_BYTES;
 
+// Bits 1..0 of a fault. Those of the other forms stand in the layouts.
 const FAULT_FORM: u32 = 0b00;
 
-const LINK_FORM: u32 = 0b01;
-
-// The numbers of the page rights (entries 13): from 8 on those of pages, large or not.
+// The numbers of the page rights, which entries 13 fixes and `word_code` answers: from 8 on those of pages, large or not.
 const FAULT_CODE: u8 = 0;
 
 const UNACCEPTED_CODE: u8 = 7;
@@ -200,7 +199,7 @@ fn entry_of(level: Level, mem: &[u8], j: usize, w: u32) -> Entry
     position.entry(level)
 }
 
-// Word j of the memory, read as an entry of an L1 table.
+// Word j of the memory, read as an entry of an L1 table. `entry_at` would ask for the words around it too.
 #[tactic(auto, unfolding(crate::specs::Entries::entry_at))]
 pub fn l1_entry_at(mem: &[u8], j: usize) -> Entry
     requires { HoldsWord mem.now j }

@@ -4,7 +4,7 @@ ghost use Rattle.entries.specs.Entries.{large, link, page, section};
 ghost use Rattle.entries.specs.Written.{kind_bits, word_of, written_ap, written_xn};
 ghost use Rattle.entries.specs.Needs.{IsBlock, IsLargeStart, IsSectionStart, IsTablePlace};
 
-use crate::layout::{LARGE, Layout, PAGE, SECTION};
+use crate::layout::{LARGE, LINK_FORM, Layout, PAGE, SECTION};
 use crate::rights::{Right, allows};
 
 const READ_WRITE_AP: u32 = 0b011;
@@ -12,9 +12,6 @@ const READ_WRITE_AP: u32 = 0b011;
 const READ_AP: u32 = 0b010;
 
 const NOTHING_AP: u32 = 0b001;
-
-// Bits 1..0 of a link.
-const LINK: u32 = 0b01;
 
 // B, and C above it, in each form.
 const B: u32 = 2;
@@ -107,5 +104,5 @@ pub fn link_word(place: u32) -> u32
     requires { IsTablePlace place }
     ensures { (kind : ℕ) → result ≡ word_of kind (link place) }
 {
-    TABLE_BYTES * place + LINK
+    TABLE_BYTES * place + LINK_FORM
 }

@@ -20,6 +20,9 @@ pub(crate) struct Layout {
     ghost in_word: { (form < 4) × (ap ≤ 10) × (ap_high ≤ 15) × (xn ≤ 15) × (tex ≤ 12) × (s ≤ 16) },
 }
 
+// Bits 1..0 of a link, which has neither rights nor a kind.
+pub(crate) const LINK_FORM: u32 = 0b01;
+
 pub(crate) const SECTION: Layout = Layout {
     form: 0b10,
     ap: 10,
