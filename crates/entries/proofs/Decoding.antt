@@ -14,7 +14,7 @@ use Rattle.words.proofs.Bounded.{and_true, and_true_left, any_none, any_avoids, 
 use Rattle.words.proofs.Fields.{bits_low}
 use Rattle.entries.specs.Rights.{accepted_ap, may_read, may_write, may_execute, rights_of}
 use Rattle.entries.specs.Entries.{Entry, fault, unaccepted, link, section, page, large, Level, l1, l2, section_ap, section_xn, page_ap, page_xn, large_xn, is_link_form, is_section_form, is_page_form, is_large_form, l1_entry, l2_entry, run_words, run_word, is_run, entry_at, code_of, word_code, whole_word, page_code, is_fault, is_unaccepted, is_link, is_section, is_page, is_large, section_blocks, large_blocks}
-use Rattle.entries.specs.Needs.{has_page_bit}
+use Rattle.entries.specs.Needs.{accepted_at, has_page_bit}
 use Rattle.entries.proofs.Covers.{stands_alone}
 
 -- Words of level 2
@@ -266,27 +266,41 @@ module _ (w : ℕ) (taken : is_unaccepted (l1_entry w) ≡ false) where
   unfolding l1_entry is_link_form
   accepted_section h k = accepted_cond (is_section_form w) _ (rw (ne_eqb (bits w 0 2) 0b00 h, ne_eqb (bits w 0 2) 0b01 k) at taken)
 
-module _ (mem : List ℕ) (j w : ℕ) (is : w ≡ word mem (4 * j)) (taken : is_unaccepted (entry_at l2 mem j) ≡ false) where
-  l2_taken : is_unaccepted (l2_entry (is_run mem j) (j % run_words) w) ≡ false
-  unfolding entry_at
-  l2_taken = rw is taken
-
+module _ (j w : ℕ) (taken : is_unaccepted (accepted_at l2 j w) ≡ false) where
   pub accepted_page : bits w 1 1 ≡ 1 → is_page_form w ≡ true
   unfolding by_tests
-  accepted_page h = accepted_cond (is_page_form w) _ (rw (by_page_tests w (is_run mem j) (j % run_words) h) at l2_taken)
+  accepted_page h = accepted_cond (is_page_form w) _ (rw (by_page_tests w true (j % run_words) h) at taken)
 
-  pub accepted_large : bits w 0 2 ≢ 0b00 → bits w 1 1 ≢ 1 → (is_large_form w ≡ true) × (is_run mem j ≡ true)
+  pub accepted_large : bits w 0 2 ≢ 0b00 → bits w 1 1 ≢ 1 → is_large_form w ≡ true
   unfolding by_tests
   accepted_large h k =
       let low : bits w 0 2 ≡ 0b01 = omega arith in
-      and_true _ _ (accepted_cond (is_large_form w && is_run mem j) _ (rw (by_large_tests w (is_run mem j) (j % run_words) low) at l2_taken))
+      and_true_left _ _ (accepted_cond (is_large_form w && true) _ (rw (by_large_tests w true (j % run_words) low) at taken))
+
+module _ (v : Level) (j w : ℕ) where
+  pub accepted_fault : bits w 0 2 ≡ 0b00 → fault ≡ accepted_at v j w
+  unfolding l1_entry l2_entry
+  accepted_fault h = elim v as (λ v. fault ≡ accepted_at v j w) [ l1 ↦ rw h | l2 ↦ rw h ]
+
+-- an accepted word with the form of a large page stands in a run
+pub accepted_is : (v : Level) (mem : List ℕ) (j w : ℕ) → w ≡ word mem (4 * j) → is_unaccepted (entry_at v mem j) ≡ false → accepted_at v j w ≡ entry_at v mem j
+unfolding entry_at l2_entry is_unaccepted
+accepted_is l1 mem j w is taken = ap l1_entry is
+accepted_is l2 mem j w is taken = rw is (settled (eqb (bits (word mem (4 * j)) 0 2) 0b00) (is_page_form (word mem (4 * j))) (is_large_form (word mem (4 * j))) (is_run mem j) _ _ taken) where
+  settled : (s t u run : Bool) (p q : Entry) → is_unaccepted (cond s fault (cond t p (cond (u && run) q unaccepted))) ≡ false
+      → cond s fault (cond t p (cond (u && true) q unaccepted)) ≡ cond s fault (cond t p (cond (u && run) q unaccepted))
+  settled true t u run p q h = refl
+  settled false true u run p q h = refl
+  settled false false true true p q h = refl
+  settled false false true false p q h = absurd (false≢true (sym h))
+  settled false false false run p q h = refl
 
 -- so an accepted word with the bit of a page is one
 pub accepted_page_bit : (v : Level) (mem : List ℕ) (j w : ℕ) → w ≡ word mem (4 * j) → is_unaccepted (entry_at v mem j) ≡ false → has_page_bit v w ≡ true
     → (is_page_form w ≡ true) × (page (bits w 12 20) (rights_of (page_ap w) (page_xn w)) ≡ entry_at v mem j)
 accepted_page_bit l1 mem j w is taken h = absurd (false≢true h)
 accepted_page_bit l2 mem j w is taken h =
-    let form = accepted_page mem j w is taken (eqb-true _ _ h) in
+    let form = accepted_page j w (ap is_unaccepted (accepted_is l2 mem j w is taken) ∙ taken) (eqb-true _ _ h) in
     (form, entry_at_page mem j w is form)
 
 -- no page, large or not, stands in an L1 table, and no link and no section in an L2 table

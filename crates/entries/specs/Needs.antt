@@ -1,7 +1,7 @@
 -- What functions owe each other: a word that lies in the memory, a place that has an address, a bit, a number of a packed table (RULES: entries, calls, forms).
-use Rattle.std.specs.Prelude.{Bool, false, List, ◌≡◌, ℕ, ◌+◌, ◌*◌, ◌/◌, ◌%◌, ◌^◌, ◌≤◌, ◌<◌, eqb, length, get_or}
+use Rattle.std.specs.Prelude.{Bool, true, false, List, ◌≡◌, ℕ, ◌+◌, ◌*◌, ◌/◌, ◌%◌, ◌^◌, ◌≤◌, ◌<◌, eqb, length, get_or}
 use Rattle.words.specs.Words.{bits}
-use Rattle.entries.specs.Entries.{Level, l1, l2, section_blocks, large_blocks, run_words}
+use Rattle.entries.specs.Entries.{Entry, Level, l1, l2, l1_entry, l2_entry, section_blocks, large_blocks, run_words}
 
 -- calls 1, memory 4: word j lies in the lent memory
 abbrev pub HoldsWord : List ℕ → ℕ → Type 0
@@ -26,6 +26,11 @@ IsLargeStart b = (b < 2 ^ 20) × (b % large_blocks ≡ 0)
 -- entries 6: p can be the address of an L2 table / 1,024, which has 22 bits
 abbrev pub IsTablePlace : ℕ → Type 0
 IsTablePlace p = p < 2 ^ 22
+
+-- entries 21: what word w at index j of a table of this level means, where it is accepted: if it has the form of a large page, it stands in a run
+abbrev pub accepted_at : Level → ℕ → ℕ → Entry
+accepted_at l1 j w = l1_entry w
+accepted_at l2 j w = l2_entry true (j % run_words) w
 
 -- entries 8: bit 1, which at level 2 tells pages from all else that is accepted
 abbrev pub has_page_bit : Level → ℕ → Bool

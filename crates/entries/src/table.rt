@@ -5,7 +5,7 @@ ghost use Rattle.entries.specs.Entries.{page_ap, page_code, page_xn};
 ghost use Rattle.entries.specs.Needs.{packed_at};
 
 // The numbers of entries 22, packed as forms 5 says, 64 to a line. The first line ends with BF: F for index 03E, B for 03F.
-const PAGE_RIGHTS: [u8; 512] =
+static PAGE_RIGHTS: [u8; 512] =
     *b"\x60\x88\x60\x88\x60\x88\x60\x88\x60\x88\x60\x88\x60\x88\x60\x88\x60\x9d\x60\x9d\x60\x9d\x60\x9d\x60\xbf\x60\xbf\x60\xbf\x60\xbf\
     \x60\x88\x60\x88\x60\x88\x60\x88\x60\x88\x60\x88\x60\x88\x60\x88\x60\x9d\x60\x9d\x60\x9d\x60\x9d\x60\xbf\x60\xbf\x60\xbf\x60\xbf\
     \x60\x88\x60\x88\x60\x88\x60\x88\x60\x88\x60\x88\x60\x88\x60\x88\x60\x9d\x60\x9d\x60\x9d\x60\x9d\x60\xbf\x60\xbf\x60\xbf\x60\xbf\
@@ -26,8 +26,7 @@ const PAGE_RIGHTS: [u8; 512] =
 // Half a byte has sixteen values.
 const HALF_VALUES: u8 = 16;
 
-// The number at an index of a packed table (forms 5). The last remainder changes nothing in a byte: it is there since a proof is told no bound of an
-// element of a lent array.
+// The number at an index of a packed table (forms 5).
 fn packed_at(pairs: &[u8; 512], index: usize) -> u8
     requires { index < 1024 }
     ensures { result ≡ packed_at pairs.now index }
@@ -36,11 +35,11 @@ fn packed_at(pairs: &[u8; 512], index: usize) -> u8
     if index % 2 == 0 {
         pair % HALF_VALUES
     } else {
-        pair / HALF_VALUES % HALF_VALUES
+        pair / HALF_VALUES
     }
 }
 
-// The number at an index, which is bits 9..0 of a word. The language has no static data: the whole array is laid on the stack first.
+// The number at an index, which is bits 9..0 of a word.
 pub fn rights_at(low: usize) -> u8
     requires { low < 1024 }
     ensures { result ≡ page_code low }
@@ -56,7 +55,8 @@ fn access_of(low: usize) -> usize
 }
 
 // The same at the index of a page. The bits of the memory kind do not change the number, so it is read where they are 0: there the index is fixed, and the
-// compiler has the number itself. The first sixteen arms are all that are taken.
+// compiler has the number itself. The first sixteen arms are all that are taken. By `rights_at` alone, create and free of pages take 2 to 4 percent more
+// instructions.
 #[tactic(auto, unfolding(crate::proofs::Decoding::access_code, crate::specs::Needs::packed_at, crate::specs::Rights::rights_of, crate::specs::Rights::may_read, crate::specs::Rights::may_write, crate::specs::Rights::may_execute, words::specs::Bounded::num))]
 pub fn page_rights_at(low: usize) -> u8
     requires { (low < 1024) × (bits low 1 1 ≡ 1) }

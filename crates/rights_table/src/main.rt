@@ -1,7 +1,7 @@
 // Prints the page rights of all 1,024 indices, as sixteen lines of 64 hexadecimal digits.
 #![tactic(auto)]
 
-ghost use Rattle.std.specs.Prelude.{◌<◌};
+ghost use Rattle.std.specs.Prelude.{◌+◌, ◌≤◌};
 
 use entries::table::rights_at;
 use std::io;
@@ -10,19 +10,19 @@ const LINES: usize = 16;
 
 const DIGITS_OF_A_LINE: usize = 64;
 
-fn print_line(rt: &impl Print, line: usize) -> io::Result<()>
-    requires { line < 16 }
+// Prints the line of the indices from first on.
+fn print_line(rt: &impl Print, first: usize) -> io::Result<()>
+    requires { first + 64 ≤ 1024 }
 {
-    for column in 0..DIGITS_OF_A_LINE {
-        let rights = rights_at(DIGITS_OF_A_LINE * line + column);
-        print!(rt; "{rights:x}")?;
+    for low in first..first + DIGITS_OF_A_LINE {
+        print!(rt; "{:x}", rights_at(low))?;
     }
     println!(rt; "")
 }
 
 fn main(rt: HostRuntime) -> io::Result<()> {
     for line in 0..LINES {
-        print_line(&rt, line)?;
+        print_line(&rt, DIGITS_OF_A_LINE * line)?;
     }
     Ok(())
 }

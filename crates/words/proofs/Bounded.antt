@@ -1,14 +1,15 @@
 -- Laws of bounded tests: when some number below a bound has a property, and when none has.
 use mathlib.Core.Path.{◌≡◌, refl, sym, ◌∙◌, ap, ap₂}
 use mathlib.Core.Logic.{◌⊎◌, inl, inr, ⊎_elim}
-use mathlib.Core.Bool.{Bool, true, false, not, ◌&&◌, ◌||◌, false≢true, or-true, or_assoc}
+use mathlib.Core.Bool.{Bool, true, false, not, ◌&&◌, ◌||◌, false≢true, or-true, or_assoc, or_comm}
 use Prim.Native.Nat.{ℕ, zero, suc, ◌+◌, ◌*◌, ◌<◌, ◌≤◌}
-use native.Mathlib.Nat.{eq-or-lt_of_le, le_of_suc-le-suc}
+use native.Mathlib.Nat.{add-zero, eq-or-lt_of_le, le_of_suc-le-suc}
 use native.Mathlib.Decide.{dec_lt}
 use native.Mathlib.Numerals.{add-one}
 use native.Mathlib.Omega.{arith}
 use lib.Dec.{leb, ltb}
 use borrow.Author.Tests.{lt-ltb, le-ltb, lt-leb, le-leb, ltb-true, leb-true, eq-eqb, ne_eqb}
+use Rattle.std.specs.List.{list_all, range_with_len}
 use Rattle.words.specs.Bounded.{above, neqb, among, any}
 
 -- a number below n + 1 is n or below n
@@ -160,6 +161,25 @@ any_or n p q = both_ways (any n (λ i. p i || q i)) (any n p || any n q) there b
       ⊎_elim (λ u. let (i, l, t) = any_found p n u in any_hit (λ i. p i || q i) n i l (or_left (p i) (q i) t))
       (λ u. let (i, l, t) = any_found q n u in any_hit (λ i. p i || q i) n i l (or_right (p i) (q i) t))
       (or_cases (any n p) (any n q) h)
+
+-- the first number, and those behind it
+any_front : (p : ℕ → Bool) (n : ℕ) → any (suc n) p ≡ (p 0 || any n (λ i. p (suc i)))
+unfolding any
+any_front p zero = sym (or_comm (p 0) false)
+any_front p (suc n) = rw (any_front p n) (or_assoc (p 0) (any n (λ i. p (suc i))) (p (suc n)))
+
+not_or : (a b : Bool) → not (not a || b) ≡ (a && not b)
+not_or true b = refl
+not_or false b = refl
+
+-- all n numbers of a range from a on have p, where those that have not are told by q
+pub all_range : (p q : ℕ → Bool) (n a : ℕ) → ((i : ℕ) → i < n → q i ≡ not (p (a + i))) → list_all p (range_with_len a n) ≡ not (any n q)
+unfolding any
+all_range p q zero a h = refl
+all_range p q (suc n) a h =
+    let rest = all_range p (λ i. q (suc i)) n (a + 1) (λ i l. let e : a + suc i ≡ a + 1 + i = omega arith in rw (← e) (h (suc i) (omega arith))) in
+    let first : q 0 ≡ not (p a) = rw add-zero at (h 0 (omega arith)) in
+    rw (any_front q n, first, not_or (p a) (any n (λ i. q (suc i))), rest) refl
 
 -- tests that two numbers differ
 pub differ : (a b : ℕ) → (a ≡ b → ⊥) → neqb a b ≡ true

@@ -1,9 +1,9 @@
 -- Laws of bit fields: a field does not depend on the bits beside it.
 use mathlib.Core.Path.{◌≡◌, sym, ◌∙◌, ap}
 use Prim.Native.Nat.{ℕ, ◌+◌, ◌*◌, ◌-◌, ◌/◌, ◌%◌, ◌^◌, ◌<◌, ◌≤◌}
-use native.Mathlib.Nat.{div-one, mod-lt, mod-eq_of_lt, mul_comm, one-mul}
+use native.Mathlib.Nat.{div-one, mod-lt, mod-eq_of_lt, mul_comm}
 use native.Mathlib.Omega.{arith}
-use lib.Pow.{pow_pos, shl_exact, shr-shr, field, mod-mod-pow, mod-pow-add, high, low}
+use lib.Pow.{pow_pos, shr-shr, field, mod-mod-pow, mod-pow-add, high, low}
 use Rattle.words.specs.Words.{bits, put_bits}
 
 pub bits_bound : (v lo n : ℕ) → bits v lo n < 2 ^ n
@@ -58,7 +58,3 @@ module _ (v lo n u : ℕ) where
       let bottom : w % 2 ^ lo ≡ v % 2 ^ lo = sym (mod-mod-pow w n lo) ∙ ap (λ x. x % 2 ^ lo) whole ∙ under in
       let bottoms : bits w 0 lo ≡ bits v 0 lo = rw (div-one w, div-one v) bottom in
       sym (bits_low w j m lo h) ∙ ap (λ x. bits x j m) bottoms ∙ bits_low v j m lo h
-
--- 1 shifted within a word
-pub one_shifted : (n : ℕ) → n < 32 → 1 * 2 ^ n % 2 ^ 32 ≡ 2 ^ n
-one_shifted n h = shl_exact {a = 1} 1 n 32 (omega arith) (omega arith) ∙ one-mul (2 ^ n)

@@ -7,7 +7,11 @@ use native.Mathlib.Nat.{add-zero, add-suc, suc-add}
 use native.Mathlib.Numerals.{add-one}
 use native.Mathlib.Omega.{arith}
 use lib.ListN.{length, get_or, take, drop, set, length-append, length-take, length-drop, length-set, replicate, length-replicate, get_or-append}
-use lib.Seq.{get_or-take, get_or-drop, get_or_at, get_or-set_same, get_or-set_other, take-suc-set, take_all, take-suc, length-take-le, ext_get_or, sets, sets-eq}
+use lib.Seq.{get_or-take, get_or-drop, get_or_at, get_or-set_same, get_or-set_other, take-suc-set, take_all, ext_get_or, sets, sets-eq}
+use borrow.Rule.Slice.PartMut.{put_mid}
+use Rattle.std.proofs.lemmas.Slice.{put_mid-paste}
+use Rattle.std.proofs.lemmas.List.Edits.{paste_all}
+use Rattle.std.proofs.Common.{append_assoc}
 use Rattle.words.specs.Lists.{part, tabulate, put_list}
 use Rattle.words.proofs.Bounded.{last_or_below}
 
@@ -59,14 +63,6 @@ unfolding put_list
 put_list-append xs a [] zs = rw add-zero refl
 put_list-append xs a (y ∷ ys) zs = rw (add-suc, ← suc-add) (put_list-append (set xs a y) (suc a) ys zs)
 
--- the turn of a loop that stores element after element
-pub put_list_turn : (xs : List ℕ) (a : ℕ) (ys : List ℕ) (i : ℕ) {zs : List ℕ} → i < length ys → zs ≡ put_list xs a (take i ys)
-    → set zs (a + i) (get_or ys i 0) ≡ put_list xs a (take (i + 1) ys)
-unfolding put_list
-put_list_turn xs a ys i h e =
-    let l = length-take-le i ys (omega arith) in
-    rw (e, add-one, take-suc ys i 0 h) (rw l at (put_list-append xs a (take i ys) (get_or ys i 0 ∷ [])))
-
 -- the library's run of stores
 stores : (xs : List ℕ) (a : ℕ) (ys : List ℕ) → put_list xs a ys ≡ sets xs a ys
 unfolding put_list
@@ -76,6 +72,12 @@ stores xs a (y ∷ ys) = stores (set xs a y) (suc a) ys
 -- what is stored, between what stands before and behind it
 pub put_list_between : (xs : List ℕ) (a : ℕ) (ys : List ℕ) → a + length ys ≤ length xs → put_list xs a ys ≡ take a xs ++ ys ++ drop (a + length ys) xs
 put_list_between xs a ys h = stores xs a ys ∙ sets-eq ys xs a h
+
+-- a part of a slice that holds other elements now
+pub put_mid-list : (xs : List ℕ) (a k : ℕ) (ys : List ℕ) {zs : List ℕ} → zs ≡ ys → k ≡ length ys → a + length ys ≤ length xs → put_mid a k xs zs ≡ put_list xs a ys
+put_mid-list xs a k ys {zs} e n h =
+    put_mid-paste a k xs zs ys (length ys) e (sym n) refl ∙ paste_all xs a ys (length ys) refl ∙ sym (append_assoc (take a xs) ys (drop (a + length ys) xs))
+    ∙ sym (put_list_between xs a ys h)
 
 -- an element that is not stored over
 pub get_or-put_list_other : (xs : List ℕ) (a : ℕ) (ys : List ℕ) (i : ℕ) → (a ≤ i → a + length ys ≤ i) → get_or (put_list xs a ys) i 0 ≡ get_or xs i 0

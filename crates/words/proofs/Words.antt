@@ -7,6 +7,8 @@ use native.Mathlib.Nat.{add-zero, div-one, div-div-eq-div-mul, mod-eq_of_lt}
 use native.Mathlib.Omega.{arith}
 use lib.ListN.{length, get_or, set, length-set, get_or-eq_default}
 use lib.Seq.{get_or-set_same, get_or-set_other, set-get_or, ext_get_or}
+use Rattle.std.specs.Int.{w32, to_le_bytes}
+use Rattle.words.specs.Lists.{put_list}
 use Rattle.words.specs.Words.{bits, word, put_word}
 use Rattle.words.proofs.Bounded.{below_or_above}
 
@@ -46,6 +48,15 @@ module _ (xs : List ℕ) (a v : ℕ) where
       let inside : a + 3 < length (set (set (set xs a (bits v 0 8)) (a + 1) (bits v 8 8)) (a + 2) (bits v 16 8)) = simp length-set (omega arith) in
       simp get_or-set_same
   get_or-put_word_same (suc (suc (suc (suc k)))) h l = let z : ⊥ = omega arith in absurd z
+
+-- a store is that of the list of the four bytes
+pub put_word-list : (xs : List ℕ) (a v : ℕ) → put_list xs a (to_le_bytes w32 v) ≡ put_word xs a v
+unfolding put_list put_word
+put_word-list xs a v =
+    let second : suc a ≡ a + 1 = omega arith in
+    let third : suc (suc a) ≡ a + 2 = omega arith in
+    let fourth : suc (suc (suc a)) ≡ a + 3 = omega arith in
+    rw (fourth, third, second, div-one v)
 
 -- Reading
 

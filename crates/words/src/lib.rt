@@ -8,34 +8,22 @@ ghost use Rattle.words.specs.Words.{bits, half, word, put_word};
 
 pub const WORD_BYTES: usize = 4;
 
-// The word of four bytes, the lowest first.
-fn word_of(a: u8, b: u8, c: u8, d: u8) -> u32
-    ensures { result ≡ a + 2 ^ 8 * b + 2 ^ 16 * c + 2 ^ 24 * d }
-{
-    a as u32 + b as u32 * 0x100 + c as u32 * 0x10000 + d as u32 * 0x1000000
-}
-
-// The number of two bytes, the lower first.
-fn half_of(a: u8, b: u8) -> u32
-    ensures { result ≡ a + 2 ^ 8 * b }
-{
-    a as u32 + b as u32 * 0x100
-}
-
-// The number of two bytes at a place.
+// The number of two bytes at a place, the lower first.
+#[tactic(auto, unfolding(crate::specs::Words::half))]
 pub fn half(s: &[u8], at: usize) -> u32
     requires { at + 2 ≤ length s.now }
     ensures { result ≡ half s.now at }
 {
-    half_of(s[at], s[at + 1])
+    u16::from_le_bytes([s[at], s[at + 1]]).into()
 }
 
-// The word at a place.
+// The word at a place, its lowest byte first.
+#[tactic(auto, unfolding(crate::specs::Words::word))]
 pub fn word(s: &[u8], at: usize) -> u32
     requires { at + 4 ≤ length s.now }
     ensures { result ≡ word s.now at }
 {
-    word_of(s[at], s[at + 1], s[at + 2], s[at + 3])
+    u32::from_le_bytes([s[at], s[at + 1], s[at + 2], s[at + 3]])
 }
 
 // Stores the word v at a place.
@@ -43,10 +31,7 @@ pub fn put_word(s: &mut [u8], at: usize, v: u32)
     requires { at + 4 ≤ length s.old }
     ensures { s.new ≡ put_word s.old at v }
 {
-    s[at] = (v % 0x100) as u8;
-    s[at + 1] = (v / 0x100 % 0x100) as u8;
-    s[at + 2] = (v / 0x10000 % 0x100) as u8;
-    s[at + 3] = (v / 0x1000000 % 0x100) as u8;
+    s[at..at + WORD_BYTES].copy_from_slice(&v.to_le_bytes());
 }
 
 // The n bits of v from bit lo on.
@@ -62,19 +47,14 @@ pub fn put_bytes(s: &mut [u8], at: usize, bytes: &[u8])
     requires { at + length bytes.now ≤ length s.old }
     ensures { s.new ≡ put_list s.old at bytes.now }
 {
-    for i in 0..bytes.len() {
-        s[at + i] = bytes[i];
-    }
+    s[at..at + bytes.len()].copy_from_slice(bytes);
 }
 
-// b is one of the m numbers from p on.
+// b is one of the m numbers from p on. The end of these need not fit a word.
 pub fn is_among(p: u32, m: u32, b: u32) -> bool
     ensures { result ≡ among p m b }
 {
-    if b < p {
-        return false;
-    }
-    b - p < m
+    p <= b && b - p < m
 }
 
 // Some number below m passes the test. Compiled into its callers this is a loop written out: a range's own `any` takes one or two instructions more a number.

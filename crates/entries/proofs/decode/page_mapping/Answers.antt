@@ -18,8 +18,8 @@ page_rights_at-code-requires c =
     let e = c.bits.ensures in
     (omega arith, rw e (bits_low w 1 1 10 (omega arith) ∙ page_form_bit w c.requires))
 
-pub overflow_sub-result : goal.overflow_sub-result
-overflow_sub-result c = let e = number c.before in omega arith
+pub overflow_sub-code : goal.overflow_sub-code
+overflow_sub-code c = let e = number c.before in omega arith
 
 pub returns : goal.returns
-returns c = (c.bits-2.ensures, let e = number c.before in omega arith)
+returns c = (c.bits-2.ensures, let e = number c.before.before in omega arith)
