@@ -1,3 +1,5 @@
+pub mod Arrays
+pub mod Chunks
 pub mod Computation
 pub mod Padded
 pub mod Places

@@ -1,67 +1,65 @@
 // The compression of one block (FIPS 180-4, 6.2.2, steps 2 to 4), with hash value and schedule by value (forms 1).
-ghost use Rattle.std.specs.Prelude.{◌≡◌, ◌+◌, ◌≤◌};
-ghost use Rattle.signature.specs.Sha256.{K, T₁, T₂, round, rounds, compress};
+ghost use Rattle.std.specs.Prelude.{◌≡◌, fold};
+ghost use Rattle.std.specs.List.{zip};
+ghost use Rattle.signature.specs.Sha256.{T₁, T₂, round, rounds, compress};
 
+use crate::constants::round_constants;
 use crate::functions::{big_sigma0, big_sigma1, ch, maj};
-use std::num::wrapping_add_u32;
+use std::array;
 
 fn temp1(s: [u32; 8], k: u32, w: u32) -> u32
     ensures { result ≡ T₁ s k w }
 {
-    let x = wrapping_add_u32(s[7], big_sigma1(s[4]));
-    let y = wrapping_add_u32(x, ch(s[4], s[5], s[6]));
-    wrapping_add_u32(wrapping_add_u32(y, k), w)
+    s[7].wrapping_add(big_sigma1(s[4]))
+        .wrapping_add(ch(s[4], s[5], s[6]))
+        .wrapping_add(k)
+        .wrapping_add(w)
 }
 
 fn temp2(s: [u32; 8]) -> u32
     ensures { result ≡ T₂ s }
 {
-    wrapping_add_u32(big_sigma0(s[0]), maj(s[0], s[1], s[2]))
+    big_sigma0(s[0]).wrapping_add(maj(s[0], s[1], s[2]))
 }
 
-fn round_of(s: [u32; 8], k: u32, w: u32) -> [u32; 8]
-    ensures { result ≡ round s k w }
+// A round, with its constant and its word of the schedule.
+fn round_of(s: [u32; 8], turn: (&u32, &u32)) -> [u32; 8]
+    ensures { result ≡ round s turn.entry.0.now turn.entry.1.now }
 {
-    let t1 = temp1(s, k, w);
+    let (k, w) = turn;
+    let t1 = temp1(s, *k, *w);
     let t2 = temp2(s);
-    let a = wrapping_add_u32(t1, t2);
-    let e = wrapping_add_u32(s[3], t1);
-    [a, s[0], s[1], s[2], e, s[4], s[5], s[6]]
+    [
+        t1.wrapping_add(t2),
+        s[0],
+        s[1],
+        s[2],
+        s[3].wrapping_add(t1),
+        s[4],
+        s[5],
+        s[6],
+    ]
 }
 
-// Eight rounds from round t on: after eight, each working variable stands in its own place again.
-fn eight_rounds(s: [u32; 8], k: &[u32; 64], w: &[u32; 64], t: usize) -> [u32; 8]
-    requires { (k.now ≡ K) × (t + 8 ≤ 64) }
-    ensures { result ≡ rounds s w.now t 8 }
+// Eight rounds: after them, each working variable stands in its own place again.
+fn eight_rounds(s: [u32; 8], turns: (&[u32; 8], &[u32; 8])) -> [u32; 8]
+    ensures { result ≡ fold (λ v p. round v p.0 p.1) s (zip turns.entry.0.now turns.entry.1.now) }
 {
-    let mut v = s;
-    for j in 0..8 {
-        let r = round_of(v, k[t + j], w[t + j]);
-        v = r;
-    }
-    v
+    let (k, w) = turns;
+    k.iter().zip(w).fold(s, round_of)
 }
 
-fn all_rounds(h: [u32; 8], k: &[u32; 64], w: [u32; 64]) -> [u32; 8]
-    requires { k.now ≡ K }
+fn all_rounds(h: [u32; 8], w: [u32; 64]) -> [u32; 8]
     ensures { result ≡ rounds h w 0 64 }
 {
-    let mut s = h;
-    for i in 0..8 {
-        let r = eight_rounds(s, k, &w, 8 * i);
-        s = r;
-    }
-    s
+    let constants = round_constants().as_chunks().0;
+    let words = w.as_chunks().0;
+    constants.iter().zip(words).fold(h, eight_rounds)
 }
 
-pub fn compress_block(h: [u32; 8], k: &[u32; 64], w: [u32; 64]) -> [u32; 8]
-    requires { k.now ≡ K }
+pub fn compress_block(h: [u32; 8], w: [u32; 64]) -> [u32; 8]
     ensures { result ≡ compress h w }
 {
-    let s = all_rounds(h, k, w);
-    let mut r = [0u32; 8];
-    for j in 0..8 {
-        r[j] = wrapping_add_u32(s[j], h[j]);
-    }
-    r
+    let s = all_rounds(h, w);
+    array::from_fn(|j| s[j].wrapping_add(h[j]))
 }
