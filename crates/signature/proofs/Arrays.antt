@@ -7,7 +7,7 @@ use Rattle.words.specs.Lists.{tabulate}
 use Rattle.words.proofs.Bounded.{below_or_above}
 use Rattle.words.proofs.Lists.{length-tabulate, get_or-tabulate}
 
-module _ {F : Type 0} (g : Mut F (ℕ × Unit {0}) ℕ) (f : F) (v : ℕ → ℕ) (ys : List ℕ) (n : ℕ) (gives : (i y : ℕ) (q : F) → i < n → Called g f (i, tt) y q → (y ≡ v i) × (q ≡ f)) where
+module _ {F : Type 0} {g : Mut F (ℕ × Unit {0}) ℕ} {f : F} (v : ℕ → ℕ) (ys : List ℕ) (n : ℕ) (gives : (i y : ℕ) (q : F) → i < n → Called g f (i, tt) y q → (y ≡ v i) × (q ≡ f)) where
   elements : (i m : ℕ) (p : F) → p ≡ f → i + m ≤ n → IsFromFnResultFrom g p ys i m → (k : ℕ) → i ≤ k → k < i + m → get_or ys k 0 ≡ v k
   elements i zero p e le made k lo hi = let z : ⊥ = omega arith in absurd z
   elements i (suc m) p e le made k lo hi =

@@ -1,9 +1,8 @@
 // The compression of one block (FIPS 180-4, 6.2.2, steps 2 to 4), with hash value and schedule by value (forms 1).
 ghost use Rattle.std.specs.Prelude.{◌≡◌, fold};
 ghost use Rattle.std.specs.List.{zip};
-ghost use Rattle.signature.specs.Sha256.{T₁, T₂, round, rounds, compress};
+ghost use Rattle.signature.specs.Sha256.{K, T₁, T₂, round, rounds, compress};
 
-use crate::constants::round_constants;
 use crate::functions::{big_sigma0, big_sigma1, ch, maj};
 use std::array;
 
@@ -49,17 +48,19 @@ fn eight_rounds(s: [u32; 8], turns: (&[u32; 8], &[u32; 8])) -> [u32; 8]
     k.iter().zip(w).fold(s, round_of)
 }
 
-fn all_rounds(h: [u32; 8], w: [u32; 64]) -> [u32; 8]
+fn all_rounds(h: [u32; 8], k: &[u32; 64], w: [u32; 64]) -> [u32; 8]
+    requires { k.now ≡ K }
     ensures { result ≡ rounds h w 0 64 }
 {
-    let constants = round_constants().as_chunks().0;
+    let constants = k.as_chunks().0;
     let words = w.as_chunks().0;
     constants.iter().zip(words).fold(h, eight_rounds)
 }
 
-pub fn compress_block(h: [u32; 8], w: [u32; 64]) -> [u32; 8]
+pub fn compress_block(h: [u32; 8], k: &[u32; 64], w: [u32; 64]) -> [u32; 8]
+    requires { k.now ≡ K }
     ensures { result ≡ compress h w }
 {
-    let s = all_rounds(h, w);
+    let s = all_rounds(h, k, w);
     array::from_fn(|j| s[j].wrapping_add(h[j]))
 }

@@ -2,7 +2,7 @@
 ghost use Rattle.std.specs.Prelude.{◌≡◌};
 ghost use Rattle.signature.specs.Sha256.{K, H⁰};
 
-static ROUND_CONSTANTS: [u32; 64] = [
+const ROUND_CONSTANTS: [u32; 64] = [
     0x428a2f98, 0x71374491, 0xb5c0fbcf, 0xe9b5dba5, 0x3956c25b, 0x59f111f1, 0x923f82a4, 0xab1c5ed5,
     0xd807aa98, 0x12835b01, 0x243185be, 0x550c7dc3, 0x72be5d74, 0x80deb1fe, 0x9bdc06a7, 0xc19bf174,
     0xe49b69c1, 0xefbe4786, 0x0fc19dc6, 0x240ca1cc, 0x2de92c6f, 0x4a7484aa, 0x5cb0a9dc, 0x76f988da,
@@ -17,10 +17,11 @@ const INITIAL_HASH: [u32; 8] = [
     0x6a09e667, 0xbb67ae85, 0x3c6ef372, 0xa54ff53a, 0x510e527f, 0x9b05688c, 0x1f83d9ab, 0x5be0cd19,
 ];
 
-pub fn round_constants() -> &'static [u32; 64]
-    ensures { result.now ≡ K }
+// By value, to be lent to each block's compression: tools/portable.py refuses a static of words, whose bytes lie by the target's order.
+pub fn round_constants() -> [u32; 64]
+    ensures { result ≡ K }
 {
-    &ROUND_CONSTANTS
+    ROUND_CONSTANTS
 }
 
 pub fn initial_hash() -> [u32; 8]

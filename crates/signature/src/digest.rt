@@ -4,16 +4,18 @@ ghost use Rattle.signature.specs.Needs.{Paddable};
 ghost use Rattle.signature.specs.Sha256.{hash, sha256};
 
 use crate::compress::compress_block;
-use crate::constants::initial_hash;
+use crate::constants::{initial_hash, round_constants};
 use crate::padding::Message;
 use std::array;
 
 fn hash_of(message: &Message) -> [u32; 8]
     ensures { result ≡ hash message.now }
 {
+    let constants = round_constants();
     let mut h = initial_hash();
     for k in 0..message.padded_len() / 64 {
-        let next = compress_block(h, message.block_schedule(64 * k));
+        // With a name, since no proof is made of a call whose result is laid in an array that has a value.
+        let next = compress_block(h, &constants, message.block_schedule(64 * k));
         h = next;
     }
     h
@@ -31,5 +33,5 @@ pub fn joined_sha_256(head: &[u8], body: &[u8]) -> [u8; 32]
 pub fn sha_256(m: &[u8]) -> [u8; 32]
     ensures { result ≡ sha256 m.now }
 {
-    joined_sha_256(b"", m)
+    joined_sha_256(&m[..0], m)
 }

@@ -11,9 +11,8 @@ pub returns : goal.returns
 returns c =
     let w = c.args.w in
     let words : length w ≡ 64 = search rules in
-    let long : length c.round_constants.result.now ≡ 64 = search rules in
-    let constants : length K ≡ 64 = rw c.round_constants.ensures at long in
-    let ks : c.as_chunks.result.0.now ≡ first_chunks 8 8 K = rw (long, c.round_constants.ensures) at c.as_chunks.ensures.front in
+    let constants : length K ≡ 64 = rw c.requires at c.told-k in
+    let ks : c.as_chunks.result.0.now ≡ first_chunks 8 8 K = rw (c.told-k, c.requires) at c.as_chunks.ensures.front in
     let ws : c.as_chunks-2.result.0.now ≡ first_chunks 8 8 w = rw words at c.as_chunks-2.ensures.front in
     fold_from_yields_List _ (λ (v : List ℕ) (p : List ℕ × List ℕ). fold (λ (u : List ℕ) (q : ℕ × ℕ). round u q.0 q.1) v (zip p.0 p.1)) _ _ c.fold.ensures.ran
     (YieldsList-from_zip (YieldsList-from_slice (first_chunks 8 8 K) cc) (YieldsList-from_slice (first_chunks 8 8 w) cc))

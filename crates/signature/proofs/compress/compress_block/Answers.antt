@@ -7,4 +7,4 @@ pub returns : goal.returns
 unfolding compress
 returns c =
     let a = c.args in
-    rw (← c.all_rounds-s.ensures) (from_fn_tabulate _ _ (λ (j : ℕ). get_or c.all_rounds-s.result j 0 ⊞ get_or a.h j 0) _ 8 (λ i y q l k. search rules) c.from_fn.ensures.items)
+    rw (← c.all_rounds-s.ensures) (from_fn_tabulate (λ (j : ℕ). get_or c.all_rounds-s.result j 0 ⊞ get_or a.h j 0) _ 8 (λ i y q l k. search rules) c.from_fn.ensures.items)

@@ -9,7 +9,6 @@ pub returns : goal.returns
 unfolding sha256 digest_byte
 returns c =
     let h = c.hash_of-h.result in
-    let bytes = from_fn_tabulate _ _ (digest_byte h) _ 32 (λ i y q l k.
+    rw c.new.ensures at (rw c.hash_of-h.ensures at (from_fn_tabulate (digest_byte h) _ 32 (λ i y q l k.
     let e : y ≡ get_or (to_be_bytes w32 (get_or h (i / 4) 0)) (i % 4) 0 = search rules in
-    (e ∙ word_byte (get_or h (i / 4) 0) (i % 4) (omega arith), search rules)) c.from_fn.ensures.items in
-    rw c.new.ensures at (rw c.hash_of-h.ensures at bytes)
+    (e ∙ word_byte (get_or h (i / 4) 0) (i % 4) (omega arith), search rules)) c.from_fn.ensures.items))

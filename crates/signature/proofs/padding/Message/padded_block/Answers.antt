@@ -7,4 +7,4 @@ use Rattle.signature.proofs.padding.Message.padded_block.Goals as goal
 pub returns : goal.returns
 returns c =
     let a = c.args in
-    from_fn_tabulate _ _ (λ (i : ℕ). get_or (padded a.self.now) (a.a + i) 0) _ 64 (λ i y q l k. search rules) c.from_fn.ensures.items ∙ part-tabulate _ _ 64 c.requires.within
+    from_fn_tabulate (λ (i : ℕ). get_or (padded a.self.now) (a.a + i) 0) _ 64 (λ i y q l k. search rules) c.from_fn.ensures.items ∙ part-tabulate _ _ 64 c.requires.within
