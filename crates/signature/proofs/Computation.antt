@@ -1,7 +1,5 @@
 -- Laws of the computation of FIPS 180-4, 6.2.2: what one turn of each of its loops adds.
-use Rattle.std.proofs.Common.{◌≡◌, ℕ, zero, suc, ◌+◌, ◌-◌, ◌*◌, ◌<◌, ◌≤◌, cond, ltb, List, get_or, take, drop, set, refl, drop-cons, drop-drop, ◌∙◌, sym, length, add-zero, add_assoc, add-suc, suc-add, add-one, arith, length-set, get_or-take, take-suc-set, le-ltb, lt-ltb}
-use Rattle.std.specs.List.{fold, zip}
-use Rattle.std.specs.Simd.{first_chunks}
+use Rattle.std.proofs.Common.{◌≡◌, ℕ, zero, suc, ◌+◌, ◌-◌, ◌*◌, ◌<◌, ◌≤◌, cond, ltb, List, get_or, take, set, refl, add-zero, add_assoc, add-suc, zero-add, add-one, arith, length-set, get_or-take, take-suc-set, le-ltb, lt-ltb}
 use Rattle.words.specs.Lists.{part}
 use Rattle.words.proofs.Lists.{Filling}
 use Rattle.signature.specs.Sha256.{◌⊞◌, σ₀, σ₁, K, block_word, next_word, schedule, round, rounds, compress, hashes}
@@ -26,37 +24,20 @@ schedule_turn_next b w n t l i h e =
     schedule_turn b w n t i h
     (rw (le-ltb t 16 l, ← i.2, at 2 (omega arith), at 7 (omega arith), at 15 (omega arith), at 16 (omega arith)) e)
 
+pub rounds_more : (s w : List ℕ) (t n : ℕ) {k v r : List ℕ} → k ≡ K → v ≡ rounds s w t n → r ≡ round v (get_or k (t + n) 0) (get_or w (t + n) 0)
+    → r ≡ rounds s w t (n + 1)
+unfolding rounds
+rounds_more s w t n p q e = rw add-one (cc)
+
 rounds_add : (s w : List ℕ) (t n m : ℕ) → rounds (rounds s w t n) w (t + n) m ≡ rounds s w t (n + m)
 unfolding rounds
 rounds_add s w t n zero = rw add-zero refl
 rounds_add s w t n (suc m) = rw (add-suc, add_assoc, rounds_add s w t n m) refl
 
-rounds_none : (s w : List ℕ) (t : ℕ) → rounds s w t 0 ≡ s
-unfolding rounds
-rounds_none s w t = refl
-
--- the first round is the one at t
-rounds_first : (s w : List ℕ) (t n : ℕ) → rounds (round s (get_or K t 0) (get_or w t 0)) w (suc t) n ≡ rounds s w t (suc n)
-unfolding rounds
-rounds_first s w t zero = rw add-zero refl
-rounds_first s w t (suc n) = rw (suc-add, add-suc, rounds_first s w t n) refl
-
--- the rounds from round t on, by their constants and their words of the schedule
-module _ (w : List ℕ) (constants : length K ≡ 64) (words : length w ≡ 64) where
-  rounds_by_turns : (s : List ℕ) (t n : ℕ) → t + n ≤ 64 → fold (λ v p. round v p.0 p.1) s (zip (take n (drop t K)) (take n (drop t w))) ≡ rounds s w t n
-  rounds_by_turns s t zero h = sym (rounds_none s w t)
-  rounds_by_turns s t (suc n) h =
-      let k : t < length K = omega arith in
-      let l : t < length w = omega arith in
-      rw (drop-cons K t 0, drop-cons w t 0) (rounds_by_turns (round s (get_or K t 0) (get_or w t 0)) (suc t) n (omega arith) ∙ rounds_first s w t n)
-
-  pub rounds_by_eights : (s : List ℕ) (t m : ℕ) → t + 8 * m ≤ 64
-      → fold (λ v p. fold (λ u q. round u q.0 q.1) v (zip p.0 p.1)) s (zip (first_chunks 8 m (drop t K)) (first_chunks 8 m (drop t w))) ≡ rounds s w t (8 * m)
-  rounds_by_eights s t zero h = sym (rounds_none s w t)
-  rounds_by_eights s t (suc m) h =
-      let e : 8 * suc m ≡ 8 + 8 * m = omega arith in
-      rw (drop-drop 8 t K, drop-drop 8 t w, rounds_by_turns s t 8 (omega arith), e)
-      (rounds_by_eights (rounds s w t 8) (t + 8) m (omega arith) ∙ rounds_add s w t 8 (8 * m))
+pub rounds_turn : (h w : List ℕ) (i : ℕ) {s r : List ℕ} → s ≡ rounds h w 0 (8 * i) → r ≡ rounds s w (8 * i) 8 → r ≡ rounds h w 0 (8 * (i + 1))
+rounds_turn h w i p q =
+    let e : 8 * (i + 1) ≡ 8 * i + 8 = omega arith in
+    rw (e, ← (rounds_add h w 0 (8 * i) 8), zero-add) (cc)
 
 pub hashes_turn : (m : List ℕ) (i : ℕ) {h w s : List ℕ} → h ≡ hashes m i → w ≡ schedule (part m (64 * i) 64) 64 → s ≡ compress h w
     → s ≡ hashes m (i + 1)

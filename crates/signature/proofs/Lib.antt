@@ -1,5 +1,4 @@
 pub mod Arrays
-pub mod Chunks
 pub mod Computation
 pub mod Padded
 pub mod Places

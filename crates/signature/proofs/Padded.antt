@@ -1,6 +1,5 @@
 -- Laws of numbers as bytes and of the padded message of FIPS 180-4, 3.1 and 5.1.1: how long they are, and which byte stands where.
-use Rattle.std.proofs.Common.{◌≡◌, ℕ, suc, ◌+◌, ◌-◌, ◌*◌, ◌/◌, ◌%◌, ◌^◌, ◌<◌, ◌≤◌, List, ◌∷◌, ◌++◌, length, get_or, take, drop, replicate, sym, ap, ◌∙◌, arith, length-append, length-drop, get_or-append-add, refl, take_all, w32, w64}
-use Rattle.std.specs.List.{slice_range}
+use Rattle.std.proofs.Common.{◌≡◌, ℕ, suc, ◌+◌, ◌-◌, ◌*◌, ◌/◌, ◌%◌, ◌^◌, ◌<◌, ◌≤◌, List, ◌∷◌, ◌++◌, length, get_or, take, drop, replicate, sym, ap, ◌∙◌, arith, length-append, length-drop, get_or-append-add, refl, w32, w64}
 use Rattle.std.specs.Int.{to_be_bytes}
 use lib.ListN.{length-replicate, get_or-replicate, get_or-append}
 use lib.Pow.{field, mod-mod-pow}
@@ -89,6 +88,9 @@ part-padded m a n h =
 
 -- A message in two pieces
 module _ (head body : List ℕ) where
+  pub length_joined : length (padded (head ++ body)) ≡ length head + length body + 9 + zeros (length head + length body)
+  length_joined = rw (← (length-append head body)) (length-padded (head ++ body))
+
   -- a place behind the head, counted from its end
   behind_head : (i : ℕ) → length head ≤ i → i ≡ length head + (i - length head)
   behind_head i h = omega arith
@@ -99,11 +101,3 @@ module _ (head body : List ℕ) where
   part_joined a n h l =
       part-padded (head ++ body) a n (rw (length-append head body) (omega arith)) ∙
       ap (take n) (ap (λ (k : ℕ). drop k (head ++ body)) (behind_head a h) ∙ drop-append-add head body (a - length head))
-
-  -- a block of what the body has left from place i on
-  pub chunk_joined : (a i : ℕ) (rest block : List ℕ) → length head ≤ a → i ≡ a - length head → rest ≡ slice_range body i (length body) → length rest + i ≡ length body
-      → 64 ≤ length rest → block ≡ take 64 rest → block ≡ part (padded (head ++ body)) a 64
-  unfolding part
-  chunk_joined a i rest block h e r l n b =
-      let whole : take (length body - i) (drop i body) ≡ drop i body = take_all (length body - i) (drop i body) (rw (length-drop i body) (omega arith)) in
-      b ∙ ap (take 64) (r ∙ whole ∙ ap (λ (k : ℕ). drop k body) e) ∙ sym (part_joined a 64 h (omega arith))

@@ -1,6 +1,5 @@
 // The compression of one block (FIPS 180-4, 6.2.2, steps 2 to 4), with hash value and schedule by value (forms 1).
-ghost use Rattle.std.specs.Prelude.{◌≡◌, fold};
-ghost use Rattle.std.specs.List.{zip};
+ghost use Rattle.std.specs.Prelude.{◌≡◌, ◌+◌, ◌≤◌};
 ghost use Rattle.signature.specs.Sha256.{K, T₁, T₂, round, rounds, compress};
 
 use crate::functions::{big_sigma0, big_sigma1, ch, maj};
@@ -21,12 +20,10 @@ fn temp2(s: [u32; 8]) -> u32
     big_sigma0(s[0]).wrapping_add(maj(s[0], s[1], s[2]))
 }
 
-// A round, with its constant and its word of the schedule.
-fn round_of(s: [u32; 8], turn: (&u32, &u32)) -> [u32; 8]
-    ensures { result ≡ round s turn.entry.0.now turn.entry.1.now }
+fn round_of(s: [u32; 8], k: u32, w: u32) -> [u32; 8]
+    ensures { result ≡ round s k w }
 {
-    let (k, w) = turn;
-    let t1 = temp1(s, *k, *w);
+    let t1 = temp1(s, k, w);
     let t2 = temp2(s);
     [
         t1.wrapping_add(t2),
@@ -40,21 +37,30 @@ fn round_of(s: [u32; 8], turn: (&u32, &u32)) -> [u32; 8]
     ]
 }
 
-// Eight rounds: after them, each working variable stands in its own place again.
-fn eight_rounds(s: [u32; 8], turns: (&[u32; 8], &[u32; 8])) -> [u32; 8]
-    ensures { result ≡ fold (λ v p. round v p.0 p.1) s (zip turns.entry.0.now turns.entry.1.now) }
+// Eight rounds from round t on: after eight, each working variable stands in its own place again.
+fn eight_rounds(s: [u32; 8], k: &[u32; 64], w: &[u32; 64], t: usize) -> [u32; 8]
+    requires { (k.now ≡ K) × (t + 8 ≤ 64) }
+    ensures { result ≡ rounds s w.now t 8 }
 {
-    let (k, w) = turns;
-    k.iter().zip(w).fold(s, round_of)
+    let mut v = s;
+    // An index loop: calls of an iterator over both arrays return addresses, which tools/portable.py refuses.
+    for j in 0..8 {
+        let r = round_of(v, k[t + j], w[t + j]);
+        v = r;
+    }
+    v
 }
 
 fn all_rounds(h: [u32; 8], k: &[u32; 64], w: [u32; 64]) -> [u32; 8]
     requires { k.now ≡ K }
     ensures { result ≡ rounds h w 0 64 }
 {
-    let constants = k.as_chunks().0;
-    let words = w.as_chunks().0;
-    constants.iter().zip(words).fold(h, eight_rounds)
+    let mut s = h;
+    for i in 0..8 {
+        let r = eight_rounds(s, k, &w, 8 * i);
+        s = r;
+    }
+    s
 }
 
 pub fn compress_block(h: [u32; 8], k: &[u32; 64], w: [u32; 64]) -> [u32; 8]

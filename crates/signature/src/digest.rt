@@ -1,5 +1,6 @@
 // The digest of a message of whole bytes (FIPS 180-4, 6.2.2), lent in one piece or in two.
 ghost use Rattle.std.specs.Prelude.{◌≡◌, ◌+◌, ◌++◌, length};
+ghost use Rattle.signature.specs.Message.{joined};
 ghost use Rattle.signature.specs.Needs.{Paddable};
 ghost use Rattle.signature.specs.Sha256.{hash, sha256};
 
@@ -8,14 +9,14 @@ use crate::constants::{initial_hash, round_constants};
 use crate::padding::Message;
 use std::array;
 
-fn hash_of(message: &Message) -> [u32; 8]
-    ensures { result ≡ hash message.now }
+fn hash_of(message: Message) -> [u32; 8]
+    ensures { result ≡ hash (joined message.entry) }
 {
     let constants = round_constants();
     let mut h = initial_hash();
     for k in 0..message.padded_len() / 64 {
         // With a name, since no proof is made of a call whose result is laid in an array that has a value.
-        let next = compress_block(h, &constants, message.block_schedule(64 * k));
+        let next = compress_block(h, &constants, message.block_schedule(k));
         h = next;
     }
     h
@@ -26,7 +27,7 @@ pub fn joined_sha_256(head: &[u8], body: &[u8]) -> [u8; 32]
     requires { Paddable (length head.now + length body.now) }
     ensures { result ≡ sha256 (head.now ++ body.now) }
 {
-    let h = hash_of(&Message::new(head, body));
+    let h = hash_of(Message::new(head, body));
     array::from_fn(|i| h[i / 4].to_be_bytes()[i % 4])
 }
 

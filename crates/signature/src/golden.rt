@@ -21,9 +21,16 @@ pub fn is_misfit_image(golden: &[u8]) -> bool
 fn is_listed(digest: &[u8; DIGEST_BYTES], golden: &[u8]) -> bool
     ensures { result ≡ listed digest.now golden.now }
 {
-    // As slices, which are compared up to the first byte that differs: arrays are compared whole.
-    let digests = golden.as_chunks::<DIGEST_BYTES>().0;
-    digests.iter().any(|listed| listed[..] == digest[..])
+    // Index loops: calls that give chunks, or compare slices, return and store addresses, which tools/portable.py refuses.
+    'search: for k in 0..golden.len() / DIGEST_BYTES {
+        for j in 0..DIGEST_BYTES {
+            if digest[j] != golden[DIGEST_BYTES * k + j] {
+                continue 'search;
+            }
+        }
+        return true;
+    }
+    false
 }
 
 // The digest of block p. Its number stands apart from the contents, which stay where they are.

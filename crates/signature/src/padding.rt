@@ -1,59 +1,53 @@
 // The padded message (FIPS 180-4, 5.1.1), byte by byte and block by block. The message is lent in two pieces, a head of a few bytes and a body that
 // lies elsewhere: what is said of it is said of both, joined. Whole blocks of the body are read where they lie.
-ghost use Rattle.std.specs.Prelude.{◌≡◌, ◌+◌, ◌*◌, ◌^◌, ◌<◌, ◌≤◌, ◌++◌, IfSome, List, ℕ, length, slice_index};
-ghost use Rattle.words.specs.Lists.{part};
+ghost use Rattle.std.specs.Prelude.{◌≡◌, ◌+◌, ◌^◌, ◌<◌, ◌≤◌, ◌++◌, length};
 ghost use Rattle.signature.specs.Needs.{Paddable};
-ghost use Rattle.signature.specs.Sha256.{zeros, big_endian, padded, schedule};
 
 use crate::schedule::schedule_of;
-use std::array;
-use std::marker::Model;
 
-#[derive(Drop)]
+#[derive(Clone, Copy)]
 pub struct Message<'a> {
     head: &'a [u8],
     body: &'a [u8],
-}
-
-impl<'a> Model for Message<'a> {
-    ghost Value = { List ℕ };
-
-    ghost view = { λ m. m.head.now ++ m.body.now };
-
-    ghost invariant = { λ m. Paddable (length m.head.now + length m.body.now) };
+    ghost paddable: { Paddable (length head.now + length body.now) },
 }
 
 impl<'a> Message<'a> {
+    ghost use Rattle.std.specs.Prelude.{◌≡◌, ◌+◌, ◌*◌, ◌^◌, ◌<◌, ◌≤◌, ◌++◌, length, slice_index};
+    ghost use Rattle.words.specs.Lists.{part};
+    ghost use Rattle.signature.specs.Needs.{Paddable};
+    ghost use Rattle.signature.specs.Message.{joined};
+    ghost use Rattle.signature.specs.Sha256.{zeros, big_endian, padded, schedule};
+
     pub fn new(head: &'a [u8], body: &'a [u8]) -> Self
         requires { Paddable (length head.now + length body.now) }
-        ensures { result ≡ head.now ++ body.now }
+        ensures { joined result ≡ head.now ++ body.now }
     {
         Message { head, body }
     }
 
-    fn len(&self) -> usize
-        ensures value { result ≡ length self.now }
-        ensures paddable { Paddable result }
+    fn len(self) -> usize
+        ensures { result ≡ length (joined self.entry) }
     {
         self.head.len() + self.body.len()
     }
 
-    fn zeros(&self) -> usize
-        ensures value { result ≡ zeros (length self.now) }
+    fn zeros(self) -> usize
+        ensures value { result ≡ zeros (length (joined self.entry)) }
         ensures below { result < 64 }
     {
         (119 - self.len() % 64) % 64
     }
 
-    pub fn padded_len(&self) -> usize
-        ensures { result ≡ length (padded self.now) }
+    pub fn padded_len(self) -> usize
+        ensures { result ≡ length (padded (joined self.entry)) }
     {
         self.len() + 9 + self.zeros()
     }
 
-    fn byte(&self, i: usize) -> u8
-        requires { i < length self.now }
-        ensures { result ≡ slice_index self.now i }
+    fn byte(self, i: usize) -> u8
+        requires { i < length (joined self) }
+        ensures { result ≡ slice_index (joined self.entry) i }
     {
         let head = self.head.len();
         if i < head {
@@ -64,17 +58,17 @@ impl<'a> Message<'a> {
     }
 
     // Byte j of the length in bits. The standard takes a length below 2^64 bits.
-    fn length_byte(&self, j: usize) -> u8
+    fn length_byte(self, j: usize) -> u8
         requires { j < 8 }
-        ensures { result ≡ slice_index (big_endian 8 (8 * length self.now)) j }
+        ensures { result ≡ slice_index (big_endian 8 (8 * length (joined self.entry))) j }
     {
         let bits = 8u64.wrapping_mul(self.len() as u64);
         bits.to_be_bytes()[j]
     }
 
-    fn padded_byte(&self, i: usize) -> u8
-        requires { i < length (padded self.now) }
-        ensures { result ≡ slice_index (padded self.now) i }
+    fn padded_byte(self, i: usize) -> u8
+        requires { i < length (padded (joined self)) }
+        ensures { result ≡ slice_index (padded (joined self.entry)) i }
     {
         let n = self.len();
         if i < n {
@@ -90,31 +84,31 @@ impl<'a> Message<'a> {
         self.length_byte(i - e)
     }
 
-    fn padded_block(&self, a: usize) -> [u8; 64]
-        requires within { a + 64 ≤ length (padded self.now) }
-        requires fits { a + 64 < 2 ^ 64 }
-        ensures { result ≡ part (padded self.now) a 64 }
+    fn padded_block(self, a: usize) -> [u8; 64]
+        requires { a + 64 ≤ length (padded (joined self)) }
+        ensures { result ≡ part (padded (joined self.entry)) a 64 }
     {
-        array::from_fn(|i| self.padded_byte(a + i))
-    }
-
-    // The block at a, if it lies in the body: neither the head nor the padding reaches into it.
-    fn block_of_body(&self, a: usize) -> Option<&'a [u8; 64]>
-        ensures { IfSome result (λ b. b.now ≡ part (padded self.now) a 64) }
-    {
-        let at = a.checked_sub(self.head.len())?;
-        self.body.get(at..)?.first_chunk()
-    }
-
-    // The schedule of the block at a.
-    pub fn block_schedule(&self, a: usize) -> [u32; 64]
-        requires within { a + 64 ≤ length (padded self.now) }
-        requires fits { a + 64 < 2 ^ 64 }
-        ensures { result ≡ schedule (part (padded self.now) a 64) 64 }
-    {
-        match self.block_of_body(a) {
-            Some(block) => schedule_of(block),
-            None => schedule_of(&self.padded_block(a)),
+        let mut b = [0u8; 64];
+        for (i, byte) in b.iter_mut().enumerate() {
+            *byte = self.padded_byte(a + i);
         }
+        b
+    }
+
+    // The schedule of block k. The block lies in the body if neither the head nor the padding reaches into it.
+    pub fn block_schedule(self, k: usize) -> [u32; 64]
+        requires { 64 * k + 64 ≤ length (padded (joined self)) }
+        ensures { result ≡ schedule (part (padded (joined self.entry)) (64 * k) 64) 64 }
+    {
+        let a = 64 * k;
+        let head = self.head.len();
+        if head <= a {
+            let start = a - head;
+            let end = start + 64;
+            if end <= self.body.len() {
+                return schedule_of(&self.body[start..end]);
+            }
+        }
+        schedule_of(&self.padded_block(a))
     }
 }

@@ -1,5 +1,5 @@
 // The message schedule of a block of 64 bytes (FIPS 180-4, 5.2.1 and 6.2.2, step 1).
-ghost use Rattle.std.specs.Prelude.{◌≡◌, take};
+ghost use Rattle.std.specs.Prelude.{◌≡◌, length, take};
 ghost use Rattle.signature.specs.Sha256.{◌⊞◌, σ₀, σ₁, schedule};
 
 use crate::functions::{small_sigma0, small_sigma1};
@@ -14,20 +14,24 @@ fn next_word(w2: u32, w7: u32, w15: u32, w16: u32) -> u32
         .wrapping_add(w16)
 }
 
-fn block_words(block: &[u8; 64]) -> [u32; 64]
-    ensures { take 16 result ≡ schedule block.now 16 }
+fn block_words(b: &[u8]) -> [u32; 64]
+    requires { length b.now ≡ 64 }
+    ensures { take 16 result ≡ schedule b.now 16 }
 {
     let mut w = [0u32; 64];
-    for (t, bytes) in block.as_chunks().0.iter().enumerate() {
-        w[t] = u32::from_be_bytes(*bytes);
+    // An index loop: calls that give chunks return addresses, which tools/portable.py refuses.
+    for t in 0..16 {
+        let i = 4 * t;
+        w[t] = u32::from_be_bytes([b[i], b[i + 1], b[i + 2], b[i + 3]]);
     }
     w
 }
 
-pub fn schedule_of(block: &[u8; 64]) -> [u32; 64]
-    ensures { result ≡ schedule block.now 64 }
+pub fn schedule_of(b: &[u8]) -> [u32; 64]
+    requires { length b.now ≡ 64 }
+    ensures { result ≡ schedule b.now 64 }
 {
-    let mut w = block_words(block);
+    let mut w = block_words(b);
     // An index loop: each word is made from words that earlier turns stored.
     for t in 16..64 {
         w[t] = next_word(w[t - 2], w[t - 7], w[t - 15], w[t - 16]);

@@ -1,4 +1,5 @@
 use Rattle.std.proofs.Common.{◌≡◌, ◌/◌, length, arith}
+use Rattle.signature.specs.Message.{joined}
 use Rattle.signature.specs.Sha256.{padded, hashes, hash}
 use Rattle.signature.proofs.Computation.{hashes_turn}
 use Rattle.signature.proofs.digest.hash_of.Goals as goal
@@ -15,5 +16,5 @@ loop-k-preserved c =
 pub returns : goal.returns
 unfolding hash
 returns c =
-    let e : c.loop-k.k ≡ length (padded c.args.message.now) / 64 = omega arith in
+    let e : c.loop-k.k ≡ length (padded (joined c.args.message)) / 64 = omega arith in
     rw e at c.loop-k.invariant

@@ -1,15 +1,36 @@
--- The image has the digest among its chunks.
-use Rattle.std.proofs.Common.{rules, ◌/◌, length, List, ℕ, nat_eq, ◌∙◌}
-use Rattle.std.proofs.lemmas.Iterator.{YieldsList-from_slice}
-use Rattle.std.proofs.lemmas.Iterator.Search.{any_from_yields_List}
-use Rattle.std.specs.Cmp.Lexicographic.{pointwise}
-use Rattle.std.specs.Simd.{first_chunks}
-use Rattle.signature.proofs.Search.{listed_chunks}
+use Rattle.std.proofs.Common.{◌≡◌, ◌/◌, length, sym, refl, arith}
+use Rattle.words.specs.Bounded.{any}
+use Rattle.words.proofs.Bounded.{any_step}
+use Rattle.signature.specs.Signed.{agrees, digest_bytes, listed}
+use Rattle.signature.proofs.Search.{agrees_more, agrees_not, listed_at}
 use Rattle.signature.proofs.golden.is_listed.Goals as goal
 
+pub search-init : goal.search-init
+unfolding any
+search-init c = refl
+
+pub loop-j-init : goal.loop-j-init
+unfolding agrees any
+loop-j-init c = refl
+
+pub search-preserved : goal.search-preserved
+search-preserved c =
+    let a = c.args in
+    let k = c.search.k in
+    any_step _ k c.search.invariant (agrees_not a.digest.now a.golden.now k digest_bytes c.loop-j.j c.loop-j-test.true c.if-digest-j.true)
+
+pub loop-j-preserved : goal.loop-j-preserved
+loop-j-preserved c =
+    let a = c.args in
+    agrees_more a.digest.now a.golden.now c.search.k c.loop-j.j c.loop-j.invariant c.if-digest-j.false
+
+pub returns-in-search : goal.returns-in-search
+returns-in-search c =
+    let e : c.loop-j.j ≡ digest_bytes = omega arith in
+    listed_at _ _ c.search.k c.search-test.true (rw e at c.loop-j.invariant)
+
 pub returns : goal.returns
+unfolding listed
 returns c =
-    let d = c.args.digest.now in
-    let golden = c.args.golden.now in
-    any_from_yields_List (λ (y : List ℕ). pointwise nat_eq y d) _ _ _ c.any.ensures.ran (YieldsList-from_slice (first_chunks 32 (length golden / 32) golden) cc) (λ x b q k. search rules) ∙
-    listed_chunks d golden c.told-digest
+    let e : c.search.k ≡ length c.args.golden.now / digest_bytes = omega arith in
+    sym (rw e at c.search.invariant)

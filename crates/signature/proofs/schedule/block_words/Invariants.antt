@@ -4,4 +4,4 @@ use Rattle.signature.specs.Sha256.{schedule}
 use Rattle.signature.proofs.schedule.block_words.Given as goal
 
 abbrev pub invariant-loop-t : goal.invariant-loop-t
-invariant-loop-t l = Filling (schedule l.block) 64 l.w l.t
+invariant-loop-t l = Filling (schedule l.b) 64 l.w l.t

@@ -9,4 +9,4 @@ returns c =
     let j = c.args.j in
     ap (λ (b : List ℕ). get_or b j 0) c.to_be_bytes.ensures ∙
     length_byte c.len.result j c.requires ∙
-    ap (λ (n : ℕ). get_or (big_endian 8 (8 * n)) j 0) c.len.ensures.value
+    ap (λ (n : ℕ). get_or (big_endian 8 (8 * n)) j 0) c.len.ensures

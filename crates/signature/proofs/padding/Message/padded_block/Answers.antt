@@ -1,10 +1,22 @@
-use Rattle.std.proofs.Common.{rules, ◌+◌, ℕ, get_or, ◌∙◌}
-use Rattle.words.proofs.Lists.{part-tabulate}
-use Rattle.signature.specs.Sha256.{padded}
-use Rattle.signature.proofs.Arrays.{from_fn_tabulate}
+use Rattle.std.proofs.Common.{◌∙◌, arith, length-append}
+use Rattle.words.specs.Lists.{tabulate}
+use Rattle.words.proofs.Lists.{filling_starts, filling_turn, filling_ends, part-tabulate}
+use Rattle.signature.specs.Message.{joined}
+use Rattle.signature.proofs.Padded.{length_joined}
 use Rattle.signature.proofs.padding.Message.padded_block.Goals as goal
+
+pub loop-i-init : goal.loop-i-init
+loop-i-init c = filling_starts _ 64
+
+pub overflow_add-a : goal.overflow_add-a
+overflow_add-a c = let self = c.args.self in omega (arith, length_joined self.head.now self.body.now, self.paddable)
+
+pub loop-i-preserved : goal.loop-i-preserved
+loop-i-preserved c =
+    let at = c.loop-i in
+    filling_turn _ 64 at.byte-items at.i at.invariant (omega arith) c.padded_byte.ensures
 
 pub returns : goal.returns
 returns c =
-    let a = c.args in
-    from_fn_tabulate (λ (i : ℕ). get_or (padded a.self.now) (a.a + i) 0) _ 64 (λ i y q l k. search rules) c.from_fn.ensures.items ∙ part-tabulate _ _ 64 c.requires.within
+    let at = c.loop-i in
+    filling_ends (tabulate _) {n = 64} at.byte-items at.i at.invariant (omega arith) ∙ part-tabulate _ _ 64 c.requires
