@@ -1,4 +1,3 @@
-pub mod Arrays
 pub mod Computation
 pub mod Padded
 pub mod Places

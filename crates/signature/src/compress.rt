@@ -3,7 +3,6 @@ ghost use Rattle.std.specs.Prelude.{◌≡◌, ◌+◌, ◌≤◌};
 ghost use Rattle.signature.specs.Sha256.{K, T₁, T₂, round, rounds, compress};
 
 use crate::functions::{big_sigma0, big_sigma1, ch, maj};
-use std::array;
 
 fn temp1(s: [u32; 8], k: u32, w: u32) -> u32
     ensures { result ≡ T₁ s k w }
@@ -68,5 +67,9 @@ pub fn compress_block(h: [u32; 8], k: &[u32; 64], w: [u32; 64]) -> [u32; 8]
     ensures { result ≡ compress h w }
 {
     let s = all_rounds(h, k, w);
-    array::from_fn(|j| s[j].wrapping_add(h[j]))
+    let mut r = [0u32; 8];
+    for (j, word) in r.iter_mut().enumerate() {
+        *word = s[j].wrapping_add(h[j]);
+    }
+    r
 }

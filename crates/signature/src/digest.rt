@@ -7,7 +7,6 @@ ghost use Rattle.signature.specs.Sha256.{hash, sha256};
 use crate::compress::compress_block;
 use crate::constants::{initial_hash, round_constants};
 use crate::padding::Message;
-use std::array;
 
 fn hash_of(message: Message) -> [u32; 8]
     ensures { result ≡ hash (joined message.entry) }
@@ -28,7 +27,11 @@ pub fn joined_sha_256(head: &[u8], body: &[u8]) -> [u8; 32]
     ensures { result ≡ sha256 (head.now ++ body.now) }
 {
     let h = hash_of(Message::new(head, body));
-    array::from_fn(|i| h[i / 4].to_be_bytes()[i % 4])
+    let mut d = [0u8; 32];
+    for (i, byte) in d.iter_mut().enumerate() {
+        *byte = h[i / 4].to_be_bytes()[i % 4];
+    }
+    d
 }
 
 pub fn sha_256(m: &[u8]) -> [u8; 32]

@@ -1,10 +1,19 @@
-use Rattle.std.proofs.Common.{rules, ℕ, get_or}
-use Rattle.signature.specs.Sha256.{◌⊞◌, compress}
-use Rattle.signature.proofs.Arrays.{from_fn_tabulate}
+use Rattle.std.proofs.Common.{refl, arith}
+use Rattle.words.specs.Lists.{tabulate}
+use Rattle.words.proofs.Lists.{filling_starts, filling_turn, filling_ends}
+use Rattle.signature.specs.Sha256.{compress}
 use Rattle.signature.proofs.compress.compress_block.Goals as goal
+
+pub loop-j-init : goal.loop-j-init
+loop-j-init c = filling_starts _ 8
+
+pub loop-j-preserved : goal.loop-j-preserved
+loop-j-preserved c =
+    let at = c.loop-j in
+    filling_turn _ 8 at.word-items at.j at.invariant (omega arith) refl
 
 pub returns : goal.returns
 unfolding compress
 returns c =
-    let a = c.args in
-    rw (← c.all_rounds-s.ensures) (from_fn_tabulate (λ (j : ℕ). get_or c.all_rounds-s.result j 0 ⊞ get_or a.h j 0) _ 8 (λ i y q l k. search rules) c.from_fn.ensures.items)
+    let at = c.loop-j in
+    rw c.all_rounds-s.ensures at (filling_ends (tabulate _) {n = 8} at.word-items at.j at.invariant (omega arith))
