@@ -1,7 +1,6 @@
-use Rattle.std.proofs.Common.{◌∙◌, arith, length-append}
+use Rattle.std.proofs.Common.{◌∙◌, arith}
 use Rattle.words.specs.Lists.{tabulate}
 use Rattle.words.proofs.Lists.{filling_starts, filling_turn, filling_ends, part-tabulate}
-use Rattle.signature.specs.Message.{joined}
 use Rattle.signature.proofs.Padded.{length_joined}
 use Rattle.signature.proofs.padding.Message.padded_block.Goals as goal
 
