@@ -1,3 +1,4 @@
+pub mod Message
 pub mod Needs
 pub mod Sha256
 pub mod Signed

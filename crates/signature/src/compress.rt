@@ -3,20 +3,20 @@ ghost use Rattle.std.specs.Prelude.{◌≡◌, ◌+◌, ◌≤◌};
 ghost use Rattle.signature.specs.Sha256.{K, T₁, T₂, round, rounds, compress};
 
 use crate::functions::{big_sigma0, big_sigma1, ch, maj};
-use std::num::wrapping_add_u32;
 
 fn temp1(s: [u32; 8], k: u32, w: u32) -> u32
     ensures { result ≡ T₁ s k w }
 {
-    let x = wrapping_add_u32(s[7], big_sigma1(s[4]));
-    let y = wrapping_add_u32(x, ch(s[4], s[5], s[6]));
-    wrapping_add_u32(wrapping_add_u32(y, k), w)
+    s[7].wrapping_add(big_sigma1(s[4]))
+        .wrapping_add(ch(s[4], s[5], s[6]))
+        .wrapping_add(k)
+        .wrapping_add(w)
 }
 
 fn temp2(s: [u32; 8]) -> u32
     ensures { result ≡ T₂ s }
 {
-    wrapping_add_u32(big_sigma0(s[0]), maj(s[0], s[1], s[2]))
+    big_sigma0(s[0]).wrapping_add(maj(s[0], s[1], s[2]))
 }
 
 fn round_of(s: [u32; 8], k: u32, w: u32) -> [u32; 8]
@@ -24,9 +24,16 @@ fn round_of(s: [u32; 8], k: u32, w: u32) -> [u32; 8]
 {
     let t1 = temp1(s, k, w);
     let t2 = temp2(s);
-    let a = wrapping_add_u32(t1, t2);
-    let e = wrapping_add_u32(s[3], t1);
-    [a, s[0], s[1], s[2], e, s[4], s[5], s[6]]
+    [
+        t1.wrapping_add(t2),
+        s[0],
+        s[1],
+        s[2],
+        s[3].wrapping_add(t1),
+        s[4],
+        s[5],
+        s[6],
+    ]
 }
 
 // Eight rounds from round t on: after eight, each working variable stands in its own place again.
@@ -35,6 +42,7 @@ fn eight_rounds(s: [u32; 8], k: &[u32; 64], w: &[u32; 64], t: usize) -> [u32; 8]
     ensures { result ≡ rounds s w.now t 8 }
 {
     let mut v = s;
+    // An index loop: calls of an iterator over both arrays return addresses, which tools/portable.py refuses.
     for j in 0..8 {
         let r = round_of(v, k[t + j], w[t + j]);
         v = r;
@@ -60,8 +68,8 @@ pub fn compress_block(h: [u32; 8], k: &[u32; 64], w: [u32; 64]) -> [u32; 8]
 {
     let s = all_rounds(h, k, w);
     let mut r = [0u32; 8];
-    for j in 0..8 {
-        r[j] = wrapping_add_u32(s[j], h[j]);
+    for (j, word) in r.iter_mut().enumerate() {
+        *word = s[j].wrapping_add(h[j]);
     }
     r
 }

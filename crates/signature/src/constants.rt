@@ -17,6 +17,7 @@ const INITIAL_HASH: [u32; 8] = [
     0x6a09e667, 0xbb67ae85, 0x3c6ef372, 0xa54ff53a, 0x510e527f, 0x9b05688c, 0x1f83d9ab, 0x5be0cd19,
 ];
 
+// By value, to be lent to each block's compression: tools/portable.py refuses a static of words, whose bytes lie by the target's order.
 pub fn round_constants() -> [u32; 64]
     ensures { result ≡ K }
 {

@@ -1,13 +1,8 @@
 // The functions of FIPS 180-4, 4.1.2, on words of 32 bits.
-ghost use Rattle.std.specs.Prelude.{◌≡◌, ◌<◌};
-ghost use Rattle.signature.specs.Sha256.{ROTR, Ch, Maj, Σ₀, Σ₁, σ₀, σ₁};
+#![tactic(auto, unfolding(crate::specs::Sha256::ROTR))]
 
-fn rotate_right(n: u32, x: u32) -> u32
-    requires { (0 < n) × (n < 32) }
-    ensures { result ≡ ROTR n x }
-{
-    (x >> n) | (x << (32 - n))
-}
+ghost use Rattle.std.specs.Prelude.{◌≡◌};
+ghost use Rattle.signature.specs.Sha256.{Ch, Maj, Σ₀, Σ₁, σ₀, σ₁};
 
 pub fn ch(x: u32, y: u32, z: u32) -> u32
     ensures { result ≡ Ch x y z }
@@ -24,23 +19,23 @@ pub fn maj(x: u32, y: u32, z: u32) -> u32
 pub fn big_sigma0(x: u32) -> u32
     ensures { result ≡ Σ₀ x }
 {
-    rotate_right(2, x) ^ rotate_right(13, x) ^ rotate_right(22, x)
+    x.rotate_right(2) ^ x.rotate_right(13) ^ x.rotate_right(22)
 }
 
 pub fn big_sigma1(x: u32) -> u32
     ensures { result ≡ Σ₁ x }
 {
-    rotate_right(6, x) ^ rotate_right(11, x) ^ rotate_right(25, x)
+    x.rotate_right(6) ^ x.rotate_right(11) ^ x.rotate_right(25)
 }
 
 pub fn small_sigma0(x: u32) -> u32
     ensures { result ≡ σ₀ x }
 {
-    rotate_right(7, x) ^ rotate_right(18, x) ^ (x >> 3)
+    x.rotate_right(7) ^ x.rotate_right(18) ^ (x >> 3)
 }
 
 pub fn small_sigma1(x: u32) -> u32
     ensures { result ≡ σ₁ x }
 {
-    rotate_right(17, x) ^ rotate_right(19, x) ^ (x >> 10)
+    x.rotate_right(17) ^ x.rotate_right(19) ^ (x >> 10)
 }

@@ -3,7 +3,6 @@ ghost use Rattle.std.specs.Prelude.{◌≡◌, ◌+◌, ◌≤◌, length};
 ghost use Rattle.words.specs.Lists.{part};
 ghost use Rattle.signature.specs.Signed.{block_bytes, block_digest, listed, misfit_image, signed};
 
-use crate::bytes::word_bytes;
 use crate::digest::joined_sha_256;
 
 pub const BLOCK_BYTES: usize = 4096;
@@ -16,42 +15,35 @@ const MOST_DIGESTS: usize = 1024;
 pub fn is_misfit_image(golden: &[u8]) -> bool
     ensures { result ≡ misfit_image golden.now }
 {
-    if golden.len() % DIGEST_BYTES != 0 {
-        return true;
-    }
-    MOST_DIGESTS < golden.len() / DIGEST_BYTES
+    !golden.len().is_multiple_of(DIGEST_BYTES) || golden.len() / DIGEST_BYTES > MOST_DIGESTS
 }
 
-fn is_listed(d: [u8; 32], golden: &[u8]) -> bool
-    ensures { result ≡ listed d golden.now }
+fn is_listed(digest: &[u8; DIGEST_BYTES], golden: &[u8]) -> bool
+    ensures { result ≡ listed digest.now golden.now }
 {
-    let n = golden.len() / DIGEST_BYTES;
-    let mut found = false;
-    'search: for k in 0..n {
-        let a = DIGEST_BYTES * k;
+    // Index loops: calls that give chunks, or compare slices, return and store addresses, which tools/portable.py refuses.
+    'search: for k in 0..golden.len() / DIGEST_BYTES {
         for j in 0..DIGEST_BYTES {
-            if d[j] != golden[a + j] {
+            if digest[j] != golden[DIGEST_BYTES * k + j] {
                 continue 'search;
             }
         }
-        found = true;
-        break 'search;
+        return true;
     }
-    found
+    false
 }
 
 // The digest of block p. Its number stands apart from the contents, which stay where they are.
 pub fn block_digest(contents: &[u8], p: u32) -> [u8; 32]
     ensures { result ≡ block_digest p contents.now }
 {
-    let number = word_bytes(p);
-    joined_sha_256(&number, contents)
+    joined_sha_256(&p.to_be_bytes(), contents)
 }
 
 pub fn is_signed(contents: &[u8], golden: &[u8], p: u32) -> bool
     ensures { result ≡ signed p contents.now golden.now }
 {
-    is_listed(block_digest(contents, p), golden)
+    is_listed(&block_digest(contents, p), golden)
 }
 
 // Block p is signed, with the contents that start at byte a of the memory.
@@ -59,6 +51,5 @@ pub fn is_signed_at(memory: &[u8], a: usize, golden: &[u8], p: u32) -> bool
     requires { a + block_bytes ≤ length memory.now }
     ensures { result ≡ signed p (part memory.now a block_bytes) golden.now }
 {
-    let e = a + BLOCK_BYTES;
-    is_signed(&memory[a..e], golden, p)
+    is_signed(&memory[a..a + BLOCK_BYTES], golden, p)
 }

@@ -1,7 +1,6 @@
 // The signature of a block in its place: SHA-256 (FIPS 180-4), and the search of a golden image. signature_c exports the calls to C.
 #![tactic(auto)]
 
-mod bytes;
 mod compress;
 mod constants;
 pub mod digest;
@@ -18,16 +17,14 @@ ghost use Rattle.signature.specs.Signed.{block_digest, signed};
 pub fn signature_sha256(message: &[u8], digest: &mut [u8; 32])
     ensures { digest.new ≡ sha256 message.now }
 {
-    let d = digest::sha_256(message);
-    *digest = d;
+    *digest = digest::sha_256(message);
 }
 
 // For C and Rust: the digest of block p with these contents.
 pub fn signature_block_digest(contents: &[u8], p: u32, digest: &mut [u8; 32])
     ensures { digest.new ≡ block_digest p contents.now }
 {
-    let d = golden::block_digest(contents, p);
-    *digest = d;
+    *digest = golden::block_digest(contents, p);
 }
 
 // For C and Rust: does the golden image sign block p with these contents?

@@ -5,7 +5,7 @@ ghost use Rattle.std.specs.Prelude.{◌<◌, ◌≤◌, length};
 
 use signature::digest::sha_256;
 use signature::golden::{block_digest, is_signed, is_signed_at};
-use std::{fmt, io};
+use std::{array, fmt, io};
 
 // A digest as it is printed, in hexadecimal digits.
 #[derive(Drop)]
@@ -21,8 +21,7 @@ impl fmt::Display for Hex {
 }
 
 fn print_digest(rt: &impl Print, name: &str, d: [u8; 32]) -> io::Result<()> {
-    let digits = Hex(d);
-    println!(rt; "{name} {digits}")
+    println!(rt; "{name} {}", Hex(d))
 }
 
 fn print_answer(rt: &impl Print, name: &str, signed: bool) -> io::Result<()> {
@@ -33,38 +32,20 @@ fn print_answer(rt: &impl Print, name: &str, signed: bool) -> io::Result<()> {
     }
 }
 
-fn with_digest(image: [u8; 96], at: usize, d: [u8; 32]) -> [u8; 96]
-    requires { at ≤ 64 }
-{
-    let mut next = image;
-    for j in 0..32 {
-        next[at + j] = d[j];
-    }
-    next
-}
-
-// A golden image of three digests.
-fn image_of(first: [u8; 32], second: [u8; 32], third: [u8; 32]) -> [u8; 96] {
-    let a = with_digest([0u8; 96], 0, first);
-    let b = with_digest(a, 32, second);
-    with_digest(b, 64, third)
-}
-
 // The digest with its last bit turned over.
-fn damaged(d: [u8; 32]) -> [u8; 32] {
-    let mut e = d;
-    e[31] = d[31] ^ 1;
-    e
+fn damaged(mut d: [u8; 32]) -> [u8; 32] {
+    d[31] ^= 1;
+    d
 }
 
 fn print_search(
     rt: &impl Print,
     name: &str,
     block: &[u8; 4096],
-    image: &[u8; 96],
+    image: &[[u8; 32]; 3],
     p: u32,
 ) -> io::Result<()> {
-    print_answer(rt, name, is_signed(block, image, p))
+    print_answer(rt, name, is_signed(block, image.as_flattened(), p))
 }
 
 // Blocks 1, 2 and 3.
@@ -72,16 +53,16 @@ fn print_searches(rt: &impl Print, a: [u8; 4096], b: [u8; 4096], c: [u8; 4096]) 
     let da = block_digest(&a, 1);
     let db = block_digest(&b, 2);
     let dc = block_digest(&c, 3);
-    let image = image_of(da, db, dc);
+    let image = [da, db, dc];
     print_search(rt, "first", &a, &image, 1)?;
     print_search(rt, "middle", &b, &image, 2)?;
     print_search(rt, "last", &c, &image, 3)?;
     print_search(rt, "first-in-the-place-of-the-middle", &a, &image, 2)?;
     print_search(rt, "middle-in-the-place-of-the-first", &b, &image, 1)?;
-    let repeated = image_of(db, da, da);
+    let repeated = [db, da, da];
     print_search(rt, "repeated", &a, &repeated, 1)?;
     print_search(rt, "absent", &c, &repeated, 3)?;
-    let wrong = image_of(db, dc, damaged(da));
+    let wrong = [db, dc, damaged(da)];
     print_search(rt, "last-byte-differs", &a, &wrong, 1)
 }
 
@@ -95,8 +76,7 @@ fn print_prefix(
 ) -> io::Result<()>
     requires { n ≤ length digest.now }
 {
-    let start = 0;
-    print_answer(rt, name, is_signed(block, &digest[start..n], 0x104))
+    print_answer(rt, name, is_signed(block, &digest[..n], 0x104))
 }
 
 fn print_prefixes(rt: &impl Print, block: [u8; 4096]) -> io::Result<()> {
@@ -111,24 +91,17 @@ fn print_places(rt: &impl Print, zeros: [u8; 4096]) -> io::Result<()> {
     let d0 = block_digest(&zeros, 0x100);
     let d1 = block_digest(&zeros, 0x101);
     let d3 = block_digest(&zeros, 0x103);
-    let image = image_of(d0, d1, d3);
+    let digests = [d0, d1, d3];
+    let image = digests.as_flattened();
     let mut memory = [0u8; 12288];
     memory[4096] = 1;
-    print_answer(rt, "block-0x100", is_signed_at(&memory, 0, &image, 0x100))?;
-    print_answer(
-        rt,
-        "block-0x101",
-        is_signed_at(&memory, 4096, &image, 0x101),
-    )?;
-    print_answer(
-        rt,
-        "block-0x102",
-        is_signed_at(&memory, 8192, &image, 0x102),
-    )?;
+    print_answer(rt, "block-0x100", is_signed_at(&memory, 0, image, 0x100))?;
+    print_answer(rt, "block-0x101", is_signed_at(&memory, 4096, image, 0x101))?;
+    print_answer(rt, "block-0x102", is_signed_at(&memory, 8192, image, 0x102))?;
     print_answer(
         rt,
         "as-block-0x103",
-        is_signed_at(&memory, 8192, &image, 0x103),
+        is_signed_at(&memory, 8192, image, 0x103),
     )
 }
 
@@ -145,11 +118,7 @@ fn print_block_digests(rt: &impl Print, zeros: [u8; 4096], b: [u8; 4096]) -> io:
 fn block_of(shift: usize) -> [u8; 4096]
     requires { shift < 251 }
 {
-    let mut block = [0u8; 4096];
-    for i in 0..4096 {
-        block[i] = ((i + shift) % 251) as u8;
-    }
-    block
+    array::from_fn(|i| ((i + shift) % 251) as u8)
 }
 
 fn main(rt: HostRuntime) -> io::Result<()> {

@@ -5,7 +5,7 @@ use Rattle.signature.proofs.compress.all_rounds.Goals as goal
 
 pub loop-i-init : goal.loop-i-init
 unfolding rounds
-loop-i-init c = (omega arith, refl)
+loop-i-init c = refl
 
 pub eight_rounds-r-requires : goal.eight_rounds-r-requires
 eight_rounds-r-requires c = (c.requires, omega arith)
@@ -13,7 +13,7 @@ eight_rounds-r-requires c = (c.requires, omega arith)
 pub loop-i-preserved : goal.loop-i-preserved
 loop-i-preserved c =
     let at = c.loop-i in
-    (omega arith, rounds_turn _ _ at.i at.invariant.1 c.eight_rounds-r.ensures)
+    rounds_turn _ _ at.i at.invariant c.eight_rounds-r.ensures
 
 pub returns : goal.returns
-returns c = let e : c.loop-i.i ≡ 8 = omega arith in rw e at c.loop-i.invariant.1
+returns c = let e : c.loop-i.i ≡ 8 = omega arith in rw e at c.loop-i.invariant

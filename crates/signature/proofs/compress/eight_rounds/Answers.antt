@@ -5,12 +5,12 @@ use Rattle.signature.proofs.compress.eight_rounds.Goals as goal
 
 pub loop-j-init : goal.loop-j-init
 unfolding rounds
-loop-j-init c = (omega arith, refl)
+loop-j-init c = refl
 
 pub loop-j-preserved : goal.loop-j-preserved
 loop-j-preserved c =
     let at = c.loop-j in
-    (omega arith, rounds_more _ _ _ at.j c.requires.0 at.invariant.1 c.round_of-r.ensures)
+    rounds_more _ _ _ at.j c.requires.0 at.invariant c.round_of-r.ensures
 
 pub returns : goal.returns
-returns c = let e : c.loop-j.j ≡ 8 = omega arith in rw e at c.loop-j.invariant.1
+returns c = let e : c.loop-j.j ≡ 8 = omega arith in rw e at c.loop-j.invariant

@@ -1,11 +1,7 @@
 -- The invariant: the array is filled with the first t words of the schedule.
-use Rattle.std.proofs.Common.{◌-◌, ◌≤◌}
 use Rattle.words.proofs.Lists.{Filling}
 use Rattle.signature.specs.Sha256.{schedule}
 use Rattle.signature.proofs.schedule.schedule_of.Given as goal
 
 abbrev pub invariant-loop-t : goal.invariant-loop-t
-invariant-loop-t l = (16 ≤ l.t) × Filling (schedule l.b) 64 l.w l.t
-
-abbrev pub decreases-loop-t : goal.decreases-loop-t
-decreases-loop-t l = 64 - l.t
+invariant-loop-t l = Filling (schedule l.b) 64 l.w l.t
