@@ -16,7 +16,7 @@ use lines::{Line, Text};
 use steps::pagemon_run;
 use steps::records::{CALL_PLACE, RECORD_BYTES, is_spoilt};
 
-// The calls that give a byte, by their call bytes.
+// The calls that give a byte. Call bytes and answers stay numbers: they are those of records and of the runner, which C calls too.
 const READ: u8 = 12;
 
 const FETCH: u8 = 14;
@@ -34,7 +34,7 @@ fn line_of(call: u8, answer: u32, byte: u8) -> Line
     Line::Answer(call, answer)
 }
 
-// Adds the lines of the first records, of as many as there are answers.
+// Adds the lines of the first records, of as many as there are answers. Answers and bytes come apart, as the runner gives them to C.
 fn push_lines(text: &mut Text, records: &[u8], answers: &[u32], bytes: &[u8])
     requires whole_records { record_bytes * length answers.now ≤ length records.now }
     requires byte_for_each { length bytes.now ≡ length answers.now }
