@@ -1,6 +1,6 @@
 -- The turns of the program: a session goes on by what has arrived, and ends for a reason.
 use mathlib.Core.Bool.{Bool, true, false, cond, false≢true}
-use mathlib.Core.List.{List}
+use mathlib.Core.List.{List, []}
 use mathlib.Core.Logic.{◌⊎◌, inl, inr}
 use mathlib.Core.Path.{◌≡◌, refl, sym, ◌∙◌, ap}
 use Prim.Native.Nat.{ℕ, ◌+◌, ◌≤◌}
@@ -10,12 +10,12 @@ use Rattle.std.specs.declared.io.Error.{Error}
 use Rattle.words.specs.Lists.{put_list}
 use Rattle.lines.specs.Stored.{Stored}
 use Rattle.rules.specs.Store.{Store}
-use Rattle.transcript.specs.Sessions.{Session, session, turned, told, closing, ending}
+use Rattle.transcript.specs.Sessions.{Session, session, zeros, turned, told, closing, ending, started, arrived}
 use Rattle.pagemon.specs.declared.arrival.Arrival.{Arrival}
 use Rattle.pagemon.specs.declared.arrival.Arrival.TheVariants.{Bytes, End, Later, Failed}
 use Rattle.pagemon.specs.declared.conversation.State.{State}
 use Rattle.pagemon.specs.declared.conversation.State.TheVariants.{Open, Bad, Ended, ReadFailed, WriteFailed, TooLong}
-use Rattle.pagemon.specs.Conversation.{image, stands, is_open, is_bad, Answered, Justified}
+use Rattle.pagemon.specs.Conversation.{image, next, stands, is_open, is_bad, Answered, Justified, Underway, Concluded}
 
 -- The turn of an arrival
 
@@ -54,6 +54,19 @@ module _ (s : Store) (input : List ℕ) (kept number : ℕ) {arrival : Arrival} 
 
 -- The session
 
+pub starts : {s : Store} (input : List ℕ) → s ≡ zeros → Underway (session s (take 0 input) 0 false)
+starts input e = rw e (record { input = []; text = []; reached = started })
+
+-- by the same bytes that are not obeyed yet
+pub carried : {s : Store} {rest rest' : List ℕ} {number : ℕ} → rest' ≡ rest → Underway (session s rest number false) → Underway (session s rest' number false)
+carried e u = rw e u
+
+goes : {before : Session} (behind : List ℕ) → Underway before → before.over ≡ false → (arrival : Arrival) → Underway (next arrival before behind)
+goes behind u e (Bytes n) = record { input = _; text = _; reached = arrived u.reached e (take n behind) }
+goes behind u e End = u
+goes behind u e (Later _) = u
+goes behind u e (Failed _) = u
+
 -- no read makes the input too long
 too_long : State → Bool
 too_long Open = false
@@ -79,3 +92,23 @@ reasons arrival over Ended number e o = refl
 reasons arrival over (ReadFailed _) number e o = refl
 reasons arrival over (WriteFailed _) number e o = tt
 reasons arrival over TooLong number e o = absurd (false≢true (sym (ap too_long e ∙ not_too_long arrival over)))
+
+module _ {s left : Store} {rest rest' behind text₀ text : List ℕ} {number number' end : ℕ} {state : State} {arrival : Arrival} where
+  pub goes_on : Underway (session s rest number false)
+      → Answered arrival (session s rest number false) behind text₀ (session left rest' number' (is_bad state)) text end state
+      → Underway (session left rest' number' (is_bad state))
+  goes_on u a = rw a.session_is (goes behind u refl arrival)
+
+  pub stays_open : Underway (session s rest number false)
+      → Answered arrival (session s rest number false) behind text₀ (session left rest' number' (is_bad state)) text end state → is_open state ≡ true
+      → Underway (session left rest' number' false)
+  stays_open u a o = rw (open_false state o) at (goes_on u a)
+
+  pub concludes : Underway (session s rest number false)
+      → Answered arrival (session s rest number false) behind text₀ (session left rest' number' (is_bad state)) text end state → is_open state ≡ false
+      → Concluded left number' state
+  concludes u a o = record { rest = rest'; over = is_bad state; underway = goes_on u a; reason = reasons arrival (is_bad state) state number' a.state_is o }
+
+  pub breaks_off : Underway (session s rest number false)
+      → Answered arrival (session s rest number false) behind text₀ (session left rest' number' (is_bad state)) text end state → (error : Error) → Concluded left number' (WriteFailed error)
+  breaks_off u a error = record { rest = rest'; over = is_bad state; underway = goes_on u a; reason = tt }

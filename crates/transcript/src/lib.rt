@@ -101,7 +101,7 @@ pub struct Heard {
 }
 
 // Obeys the records that stand whole in front of the input, after so many before them, stores what is to be printed, and moves the bytes that are
-// left over to the front (program 9).
+// left over to the front (program 9). The filled part does not come as a slice: a part of an array field cannot be lent beside other fields yet.
 pub fn hear(
     memory: &mut [u8],
     ledger: &mut [u8],
