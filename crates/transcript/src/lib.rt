@@ -51,7 +51,8 @@ fn push_lines(text: &mut Text, records: &[u8], answers: &[u32], bytes: &[u8])
 // The most records that are obeyed at a time.
 pub const BATCH: usize = 2048;
 
-// Obeys records up to the first that holds no step, adds their lines, and says how many they were.
+// Obeys records up to the first that holds no step, adds their lines, and says how many they were. Memory, ledger and image are lent as to the
+// runner, which C calls too.
 fn obey_batch(
     memory: &mut [u8],
     ledger: &mut [u8],
@@ -91,7 +92,7 @@ fn judge_rest(text: &mut Text, arrived: &[u8], at: usize, obeyed: u64) -> bool
 }
 
 // A session beside its memory and ledger, and what is to be printed: how many bytes in front of the input are not obeyed yet, how many records
-// were obeyed, whether bad was said, and the place after the text.
+// were obeyed, whether bad was said, and the place after the text (`stored` of `hear` is about the caller's bytes and this place).
 #[derive(Drop)]
 pub struct Heard {
     pub kept: usize,
