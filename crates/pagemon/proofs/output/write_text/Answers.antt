@@ -1,4 +1,4 @@
--- What a write took stands behind what was written before.
+-- What a write took stands behind what was written before. The first answer is needed by the control of first_byte_not_written.
 use Rattle.std.proofs.Common.{arith}
 use Rattle.std.proofs.lemmas.Grind.{common_steps}
 use Rattle.pagemon.proofs.Exchange.{nothing_written, rest_taken, written_more}
