@@ -1,3 +1,4 @@
+pub mod Added
 pub mod Decimal
 pub mod Lines
 pub mod Stored

@@ -1,15 +1,14 @@
 -- What the program takes from its input and gives to its output, where it is known what these hold.
-use Rattle.std.proofs.Common.{◌≡◌, refl, ap, Bool, true, false, List, [], ◌++◌, append-nil, append_assoc, ℕ, ◌+◌, ◌-◌, ◌≤◌, length, take, drop, arith, take-add, take-append-drop, Option}
+use Rattle.std.proofs.Common.{◌≡◌, refl, ap, ◌∙◌, Bool, true, false, List, [], ◌++◌, append-nil, append_assoc, ℕ, ◌+◌, ◌-◌, ◌≤◌, length, take, drop, arith, take-add, take-append-drop, length-drop, drop-drop, Option}
 use mathlib.Core.Bool.{false≢true, true≢false}
-use lib.Seq.{take-take, take-append_seam}
+use lib.Seq.{take-length, take-append_seam}
 use Rattle.std.specs.declared.io.Error.{Error}
 use Rattle.std.specs.Io.KnownBytes.{Appends, Consumes, IsAtEnd}
-use Rattle.std.specs.List.{slice_range}
 use Rattle.std.proofs.KnownBytes.{Appends-nil, Appends-trans, Consumes-nil, Consumes-trans}
 use Rattle.words.specs.Lists.{part}
 use Rattle.words.proofs.Lists.{length-put_list, part-put_list}
 use Rattle.lines.specs.Stored.{Stored}
-use Rattle.rules.specs.Store.{Store}
+use Rattle.rules.specs.Store.{Store, lent}
 use Rattle.transcript.specs.Sessions.{Session, session, zeros, closing, Reached, started, arrived}
 use Rattle.transcript.proofs.Sessions.{sizes_do_not_matter}
 use Rattle.pagemon.specs.declared.arrival.Arrival.{Arrival}
@@ -22,12 +21,27 @@ use Rattle.pagemon.proofs.Turns.{open_false, reasons}
 
 -- Parts of texts
 
--- what was written of a text, and then some of what is left of it
-pub written_more : (held held' held'' : Option (List ℕ)) (text : List ℕ) (from n end : ℕ) → from + n ≤ end → Appends held held' (take from text)
-    → Appends held' held'' (take n (slice_range text from end)) → Appends held held'' (take (from + n) text)
-written_more held held' held'' text from n end h p q =
-    let same : take n (slice_range text from end) ≡ take n (drop from text) = take-take n (end - from) (drop from text) (omega arith) in
-    rw (take-add from n text, ← same) (Appends-trans held held' held'' _ _ p q)
+-- nothing of a text is written yet
+pub nothing_written : (held : Option (List ℕ)) (text : List ℕ) {rest : List ℕ} → rest ≡ text
+    → (length rest ≤ length text) × (rest ≡ drop (length text - length rest) text) × Appends held held (take (length text - length rest) text)
+nothing_written held text e = let none : length text - length text ≡ 0 = omega arith in rw (e, none) (omega arith, refl, Appends-nil held)
+
+-- the rest of a list, as a slice has it
+pub rest_taken : (n : ℕ) (rest : List ℕ) → take (length rest - n) (drop n rest) ≡ drop n rest
+rest_taken n rest = rw (← length-drop n rest) (take-length (drop n rest))
+
+-- all but the rest of a text was written, and then some of the rest
+pub written_more : (held held' held'' : Option (List ℕ)) (text rest : List ℕ) (n : ℕ) → n ≤ length rest → length rest ≤ length text
+    → rest ≡ drop (length text - length rest) text → Appends held held' (take (length text - length rest) text) → Appends held' held'' (take n rest)
+    → {left : List ℕ} → left ≡ drop n rest
+    → (length left ≤ length text) × (left ≡ drop (length text - length left) text) × Appends held held'' (take (length text - length left) text)
+written_more held held' held'' text rest n fits inside e p q {left} l =
+    let from = length text - length rest in
+    let fewer = ap length l ∙ length-drop n rest in
+    let place : length text - length left ≡ from + n = omega arith in
+    let left_is : left ≡ drop (from + n) text = l ∙ ap (drop n) e ∙ drop-drop n from text in
+    let next : take n rest ≡ take n (drop from text) = ap (take n) e in
+    (omega arith, rw place left_is, rw (place, take-add from n text, ← next) (Appends-trans held held' held'' _ _ p q))
 
 -- what is stored at the front of a text
 stored_front : (before ys text : List ℕ) (end : ℕ) → Stored before 0 ys text end → end ≤ length text → take end text ≡ ys
@@ -150,12 +164,11 @@ module _ (left left' left'' held held' held'' : Option (List ℕ)) {before : Ses
 
 -- The session
 
-pub starts : {s : Store} (left held : Option (List ℕ)) (input : List ℕ) → s ≡ zeros → Exchanged left left held held (session s (take 0 input) 0 false)
-starts left held input e = rw e (record { input = []; text = []; reached = started; taken = Consumes-nil left; written = Appends-nil held })
+pub starts : {s : Store} (left held : Option (List ℕ)) → s ≡ zeros → Exchanged left left held held (session s [] 0 false)
+starts left held e = rw e (record { input = []; text = []; reached = started; taken = Consumes-nil left; written = Appends-nil held })
 
--- by the same bytes that are not obeyed yet
-pub carried : {left left' held held' : Option (List ℕ)} {s : Store} {rest rest' : List ℕ} {number : ℕ} → rest' ≡ rest
-    → Exchanged left left' held held' (session s rest number false) → Exchanged left left' held held' (session s rest' number false)
+-- the same session
+pub carried : {left left' held held' : Option (List ℕ)} {now now' : Session} → now' ≡ now → Exchanged left left' held held' now → Exchanged left left' held held' now'
 carried e x = rw e x
 
 printed : {left left' held held' : Option (List ℕ)} {s : Store} {rest : List ℕ} {number : ℕ} {over : Bool} {state : State}
@@ -202,5 +215,11 @@ pub runs_out : {left left' held held' : Option (List ℕ)} {s : Store} {rest : L
 runs_out x h = printed (record { input = x.input; text = x.text; reached = x.reached; taken = x.taken; all = tt; written = x.written }) (refl, h)
 
 -- what was read and written is a reason for what is left
-pub concluded : {left left' held held' : Option (List ℕ)} {s : Store} {number : ℕ} {state : State} → Printed left left' held held' s number state → Concluded s number state
+concluded : {left left' held held' : Option (List ℕ)} {s : Store} {number : ℕ} {state : State} → Printed left left' held held' s number state → Concluded s number state
 concluded p = record { rest = p.rest; over = p.over; underway = record { input = p.input; text = p.text; reached = p.reached }; reason = p.reason }
+
+-- where the program ends, with what it left in memory and ledger when these are back
+pub ends : {left left' held held' : Option (List ℕ)} {memory memory' ledger ledger' : List ℕ} {number : ℕ} {state : State} → memory' ≡ memory → ledger' ≡ ledger
+    → Printed left left' held held' (lent memory ledger) number state
+    → record { concluded : Concluded (lent memory' ledger') number state; printed : Printed left left' held held' (lent memory' ledger') number state }
+ends e f p = rw (e, f) (record { concluded = concluded p; printed = p })

@@ -1,30 +1,23 @@
 -- The turns of the program: a session goes on by what has arrived, and ends for a reason.
 use mathlib.Core.Bool.{Bool, true, false, cond, false≢true}
 use mathlib.Core.List.{List, []}
-use mathlib.Core.Path.{◌≡◌, refl, sym, ◌∙◌, ap, subst}
-use Prim.Native.Nat.{ℕ, ◌+◌, ◌≤◌, ◌<◌}
-use native.Mathlib.Omega.{arith}
+use mathlib.Core.Logic.{◌⊎◌, inl, inr}
+use mathlib.Core.Path.{◌≡◌, refl, sym, ◌∙◌, ap}
+use Prim.Native.Nat.{ℕ, ◌+◌, ◌≤◌}
 use lib.ListN.{length, take, drop}
 use lib.Seq.{take-add, length-take-le}
 use Rattle.std.specs.declared.io.Error.{Error}
 use Rattle.words.specs.Lists.{put_list}
 use Rattle.lines.specs.Stored.{Stored}
 use Rattle.rules.specs.Store.{Store}
-use Rattle.transcript.specs.Needs.{Advance}
 use Rattle.transcript.specs.Sessions.{Session, session, zeros, turned, told, closing, ending, started, arrived}
 use Rattle.pagemon.specs.declared.arrival.Arrival.{Arrival}
 use Rattle.pagemon.specs.declared.arrival.Arrival.TheVariants.{Bytes, End, Later, Failed}
 use Rattle.pagemon.specs.declared.conversation.State.{State}
 use Rattle.pagemon.specs.declared.conversation.State.TheVariants.{Open, Bad, Ended, ReadFailed, WriteFailed, TooLong}
-use Rattle.pagemon.specs.Conversation.{Fits, image, next, stands, is_open, is_bad, Answered, Advanced, Justified, Underway, Concluded}
+use Rattle.pagemon.specs.Conversation.{image, next, stands, is_open, is_bad, Answered, Justified, Underway, Concluded}
 
 -- The turn of an arrival
-
-pub bytes_fit : (room kept : ℕ) {n : ℕ} {arrival : Arrival} → arrival ≡ Bytes n → Fits room kept arrival → (0 < n) × (kept + n ≤ room)
-bytes_fit room kept e f = subst (Fits room kept) e f
-
-pub fits_same : (long long' kept : ℕ) (arrival : Arrival) → long' ≡ long → Fits long kept arrival → Fits long' kept arrival
-fits_same long long' kept arrival e f = rw e f
 
 -- the state tells whether bad is said
 pub bad_over : (over : Bool) {state : State} → state ≡ cond over Bad Open → is_bad state ≡ over
@@ -40,10 +33,6 @@ open_false (ReadFailed e) o = absurd (false≢true o)
 open_false (WriteFailed e) o = absurd (false≢true o)
 open_false TooLong o = absurd (false≢true o)
 
-pub advanced : {obeyed kept n obeyed' kept' : ℕ} (state : State) → 0 < n → Advance obeyed (kept + n) kept' obeyed' (is_bad state) → is_open state ≡ true
-    → Advanced obeyed kept obeyed' kept'
-advanced state h a o = let s = a.short (open_false state o) in record { few = a.few; more = omega arith; short = s }
-
 module _ (s : Store) (input : List ℕ) (kept number : ℕ) {arrival : Arrival} {text₀ : List ℕ} where
   pub arrived_turn : (n : ℕ) {after : Session} {text : List ℕ} {end : ℕ} {state : State} → arrival ≡ Bytes n → after ≡ turned image s number (take (kept + n) input)
       → Stored text₀ 0 (told image s number (take (kept + n) input)) text end → state ≡ cond after.over Bad Open
@@ -57,13 +46,11 @@ module _ (s : Store) (input : List ℕ) (kept number : ℕ) {arrival : Arrival} 
   unfolding closing
   ended_turn e h t = rw e (record { session_is = refl; text_is = rw (length-take-le kept input h) t; state_is = refl })
 
-  pub later_turn : {error : Error} → arrival ≡ Later error → Answered arrival (session s (take kept input) number false) (drop kept input) text₀ (session s (take kept input) number false) text₀ 0 (ReadFailed error)
+  pub failed_turn : {error : Error} → (arrival ≡ Later error) ⊎ (arrival ≡ Failed error)
+      → Answered arrival (session s (take kept input) number false) (drop kept input) text₀ (session s (take kept input) number false) text₀ 0 (ReadFailed error)
   unfolding put_list
-  later_turn e = rw e (record { session_is = refl; text_is = record { bytes = refl; end = refl }; state_is = refl })
-
-  pub failed_turn : {error : Error} → arrival ≡ Failed error → Answered arrival (session s (take kept input) number false) (drop kept input) text₀ (session s (take kept input) number false) text₀ 0 (ReadFailed error)
-  unfolding put_list
-  failed_turn e = rw e (record { session_is = refl; text_is = record { bytes = refl; end = refl }; state_is = refl })
+  failed_turn (inl e) = rw e (record { session_is = refl; text_is = record { bytes = refl; end = refl }; state_is = refl })
+  failed_turn (inr e) = rw e (record { session_is = refl; text_is = record { bytes = refl; end = refl }; state_is = refl })
 
 -- The session
 

@@ -1,2 +1,4 @@
+pub mod Arrival
 pub mod Conversation
 pub mod Printed
+pub mod Session

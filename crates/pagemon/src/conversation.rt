@@ -1,22 +1,29 @@
 // The session with an input and an output: what arrives is obeyed, and what is due is printed (program 8, program 9).
-ghost use Rattle.std.specs.Prelude.{cond, false, true, ◌≡◌, ◌+◌, ◌*◌, ◌<◌, ◌≤◌, drop, length, take};
+ghost use Rattle.std.specs.Prelude.{cond, false, true, ◌≡◌, ◌+◌, ◌*◌, ◌<◌, ◌≤◌, drop, length};
+ghost use Rattle.std.specs.Io.KnownBytes.{Consumes, IsAtEnd};
 ghost use Rattle.lines.specs.Lines.{longest_line};
-ghost use Rattle.lines.specs.Stored.{Stored};
 ghost use Rattle.rules.specs.Store.{lent};
 ghost use Rattle.steps.specs.Records.{record_bytes};
-ghost use Rattle.transcript.specs.Needs.{Advance};
-ghost use Rattle.transcript.specs.Sessions.{session, told, turned, zeros};
+ghost use Rattle.transcript.specs.Sessions.{zeros};
 ghost use Rattle.transcript.specs.Transcript.{batch};
-ghost use Rattle.pagemon.specs.Conversation.{Advanced, Answered, Concluded, Fits, image, is_bad, is_open, most};
-ghost use Rattle.pagemon.specs.Printed.{Printed};
+ghost use Rattle.pagemon.specs.Conversation.{Advanced, Answered, Concluded, Fits, is_bad, is_open, most};
+ghost use Rattle.pagemon.specs.Printed.{Printed, brought};
+ghost use Rattle.pagemon.specs.Session.{session_of};
 
 use crate::arrival::{Arrival, receive};
 use crate::output::write_text;
+use lines::LONGEST_LINE;
 use std::io::{self, Read, Write};
-use transcript::{close, hear};
+use steps::records::RECORD_BYTES;
+use transcript::{BATCH, close, hear};
 
-// Where the program stands.
-#[derive(Clone, Copy)]
+// The bytes of a batch of records, and of its lines with the one of a bad record. Both have a fixed size: no memory is asked for that could lack.
+const INPUT_BYTES: usize = RECORD_BYTES * BATCH;
+
+const TEXT_BYTES: usize = LONGEST_LINE * (BATCH + 1);
+
+// Where the program stands. One enum, since `stands`, `Justified`, `Written` and `Exhausted` of specs are by these cases.
+#[derive(Clone, Copy, Debug)]
 pub enum State {
     Open,
     // A bad record was found.
@@ -29,104 +36,93 @@ pub enum State {
     TooLong,
 }
 
-fn is_open(state: State) -> bool
-    ensures { result ≡ is_open state }
-{
-    match state {
-        State::Open => true,
-        State::Bad => false,
-        State::Ended => false,
-        State::ReadFailed(_) => false,
-        State::WriteFailed(_) => false,
-        State::TooLong => false,
+impl State {
+    fn is_open(self) -> bool
+        ensures { result ≡ is_open self }
+    {
+        matches!(self, State::Open)
+    }
+
+    // After bytes have arrived, by whether bad is said.
+    fn after(is_over: bool) -> Self
+        ensures { result ≡ cond is_over State.Bad State.Open }
+    {
+        if is_over { State::Bad } else { State::Open }
     }
 }
 
-// What the program does with what a read came to: the bytes kept at the front of the input, the records obeyed, the place after what is to be
-// printed, and where it stands then.
+// What is due after a read: a text, up to its end (`Answered` of specs is about lent bytes and this place), and where the program stands then.
 #[derive(Drop)]
 struct Turn {
-    kept: usize,
-    obeyed: u64,
     end: usize,
     state: State,
 }
 
-// Where the program stands after an arrival, by whether bad is said.
-fn state_after(is_over: bool) -> State
-    ensures { result ≡ cond is_over State.Bad State.Open }
-{
-    if is_over {
-        return State::Bad;
-    }
-    State::Open
-}
-
-// Obeys the records that stand whole at the front of the input, and stores what is to be printed of them.
-fn obey_arrived(
-    memory: &mut [u8],
-    ledger: &mut [u8],
-    input: &mut [u8],
-    filled: usize,
-    obeyed: u64,
-    text: &mut [u8],
-) -> Turn
-    requires filled_in_bounds { (filled ≤ length input.old) × (length input.old ≡ record_bytes * batch) }
-    requires obeyed_lt_most { (obeyed < most) × (longest_line * (batch + 1) ≤ length text.old) }
-    ensures state_after { session (lent memory.new ledger.new) (take result.kept input.new) result.obeyed (is_bad result.state) ≡ turned image (lent memory.old ledger.old) obeyed (take filled input.old) }
-    ensures stored { Stored text.old 0 (told image (lent memory.old ledger.old) obeyed (take filled input.old)) text.new result.end }
-    ensures state_value { result.state ≡ cond (is_bad result.state) State.Bad State.Open }
-    ensures advance { Advance obeyed filled result.kept result.obeyed (is_bad result.state) }
-    ensures end_in_bounds { result.end ≤ length text.new }
-{
-    let heard = hear(memory, ledger, b"", input, filled, obeyed, text);
-    Turn {
-        kept: heard.kept,
-        obeyed: heard.obeyed,
-        end: heard.end,
-        state: state_after(heard.is_over),
-    }
-}
-
-// What the program does where reading has failed: nothing.
-fn give_up(kept: usize, obeyed: u64, error: io::Error) -> Turn
-    ensures { (result.kept ≡ kept) × (result.obeyed ≡ obeyed) × (result.end ≡ 0) × (result.state ≡ State.ReadFailed error) }
-{
-    Turn {
-        kept,
-        obeyed,
-        end: 0,
-        state: State::ReadFailed(error),
-    }
-}
-
-// Obeys what has arrived behind the bytes that are kept, and stores what is to be printed (program 9).
-fn answer(
-    arrival: Arrival,
-    memory: &mut [u8],
-    ledger: &mut [u8],
-    input: &mut [u8],
+// What the program keeps between two reads: memory and ledger, in front of the input the bytes that are not obeyed yet, and how many records were
+// obeyed.
+#[derive(Drop)]
+struct Session<'a> {
+    memory: &'a mut [u8],
+    ledger: &'a mut [u8],
+    input: [u8; INPUT_BYTES],
     kept: usize,
     obeyed: u64,
-    text: &mut [u8],
-) -> Turn
-    requires fits { Fits (length input.old) kept arrival }
-    requires kept_lt_record_bytes { (kept < record_bytes) × (length input.old ≡ record_bytes * batch) }
-    requires obeyed_lt_most { (obeyed < most) × (longest_line * (batch + 1) ≤ length text.old) }
-    ensures answered { Answered arrival (session (lent memory.old ledger.old) (take kept input.old) obeyed false) (drop kept input.old) text.old (session (lent memory.new ledger.new) (take result.kept input.new) result.obeyed (is_bad result.state)) text.new result.end result.state }
-    ensures advanced { is_open result.state ≡ true → Advanced obeyed kept result.obeyed result.kept }
-    ensures end_in_bounds { result.end ≤ length text.new }
-{
-    match arrival {
-        Arrival::Bytes(n) => obey_arrived(memory, ledger, input, kept + n, obeyed, text),
-        Arrival::End => Turn {
-            kept,
-            obeyed,
-            end: close(kept, obeyed, text),
-            state: State::Ended,
-        },
-        Arrival::Later(error) => give_up(kept, obeyed, error),
-        Arrival::Failed(error) => give_up(kept, obeyed, error),
+}
+
+impl Session<'_> {
+    // Reads behind the bytes that are kept.
+    fn receive<R: Read>(&mut self, reader: &mut R) -> Arrival
+        requires { self.old.kept < record_bytes }
+        ensures same_memory { self.new.memory.ghost_name ≡ self.old.memory.ghost_name }
+        ensures same_ledger { self.new.ledger.ghost_name ≡ self.old.ledger.ghost_name }
+        ensures same_session { session_of self.new false ≡ session_of self.old false }
+        ensures same_numbers { (self.new.kept ≡ self.old.kept) × (self.new.obeyed ≡ self.old.obeyed) }
+        ensures fits { Fits (record_bytes * batch) self.new.kept result }
+        ensures taken { Consumes (R.remaining reader.old) (R.remaining reader.new) (brought result (drop self.new.kept self.new.input)) }
+        ensures end { result ≡ Arrival.End → IsAtEnd (R.remaining reader.new) }
+    {
+        let kept = self.kept;
+        receive(reader, &mut self.input[kept..])
+    }
+
+    // Obeys what has arrived behind the bytes that are kept, and stores what is to be printed (program 9).
+    fn answer(&mut self, arrival: Arrival, text: &mut [u8]) -> Turn
+        requires fits { Fits (record_bytes * batch) self.old.kept arrival }
+        requires kept_lt_record_bytes { self.old.kept < record_bytes }
+        requires obeyed_lt_most { (self.old.obeyed < most) × (longest_line * (batch + 1) ≤ length text.old) }
+        ensures same_memory { self.new.memory.ghost_name ≡ self.old.memory.ghost_name }
+        ensures same_ledger { self.new.ledger.ghost_name ≡ self.old.ledger.ghost_name }
+        ensures answered { Answered arrival (session_of self.old false) (drop self.old.kept self.old.input) text.old (session_of self.new (is_bad result.state)) text.new result.end result.state }
+        ensures advanced { is_open result.state ≡ true → Advanced self.old.obeyed self.old.kept self.new.obeyed self.new.kept }
+        ensures end_in_bounds { result.end ≤ length text.new }
+    {
+        match arrival {
+            Arrival::Bytes(n) => {
+                let heard = hear(
+                    self.memory,
+                    self.ledger,
+                    b"",
+                    &mut self.input,
+                    self.kept + n,
+                    self.obeyed,
+                    text,
+                );
+                self.kept = heard.kept;
+                self.obeyed = heard.obeyed;
+                Turn {
+                    end: heard.end,
+                    state: State::after(heard.is_over),
+                }
+            }
+            Arrival::End => Turn {
+                end: close(self.kept, self.obeyed, text),
+                state: State::Ended,
+            },
+            Arrival::Later(error) | Arrival::Failed(error) => Turn {
+                end: 0,
+                state: State::ReadFailed(error),
+            },
+        }
     }
 }
 
@@ -146,37 +142,37 @@ pub fn converse<R: Read, W: Write>(
     writer: &mut W,
     memory: &mut [u8],
     ledger: &mut [u8],
-    input: &mut [u8],
-    text: &mut [u8],
 ) -> Conclusion
-    requires ledger_value { lent memory.old ledger.old ≡ zeros }
-    requires input_len { (length input.old ≡ record_bytes * batch) × (longest_line * (batch + 1) ≤ length text.old) }
+    requires { lent memory.old ledger.old ≡ zeros }
     ensures concluded { Concluded (lent memory.new ledger.new) result.obeyed result.state }
     ensures printed { Printed (R.remaining reader.old) (R.remaining reader.new) (W.contents writer.old) (W.contents writer.new) (lent memory.new ledger.new) result.obeyed result.state }
 {
-    let mut kept = 0;
-    let mut obeyed = 0;
-    while obeyed < MOST {
-        let arrival = receive(reader, input, kept);
-        let done = answer(arrival, memory, ledger, input, kept, obeyed, text);
-        if let Err(error) = write_text(writer, text, done.end) {
+    let mut session = Session {
+        memory,
+        ledger,
+        input: [0; INPUT_BYTES],
+        kept: 0,
+        obeyed: 0,
+    };
+    let mut text = [0u8; TEXT_BYTES];
+    while session.obeyed < MOST {
+        let arrival = session.receive(reader);
+        let turn = session.answer(arrival, &mut text);
+        if let Err(error) = write_text(writer, &text[..turn.end]) {
             return Conclusion {
                 state: State::WriteFailed(error),
-                obeyed: done.obeyed,
+                obeyed: session.obeyed,
             };
         }
-        let state = done.state;
-        if !is_open(state) {
+        if !turn.state.is_open() {
             return Conclusion {
-                state,
-                obeyed: done.obeyed,
+                state: turn.state,
+                obeyed: session.obeyed,
             };
         }
-        kept = done.kept;
-        obeyed = done.obeyed;
     }
     Conclusion {
         state: State::TooLong,
-        obeyed,
+        obeyed: session.obeyed,
     }
 }

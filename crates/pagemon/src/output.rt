@@ -1,6 +1,6 @@
 // The output, and one line on standard error where reading or writing fails (program 8).
-ghost use Rattle.std.specs.Prelude.{true, ◌≡◌, ◌+◌, ◌≤◌, ◌<◌, IfOk, OnErr, OnOk, length, slice_range, take};
-ghost use Rattle.std.specs.Io.KnownBytes.{Appends, WriteAppends};
+ghost use Rattle.std.specs.Prelude.{OnErr, OnOk};
+ghost use Rattle.std.specs.Io.KnownBytes.{Appends};
 ghost use Rattle.pagemon.specs.Printed.{AppendsPart};
 
 use crate::arrival::{TRIES, is_passing};
@@ -8,41 +8,22 @@ use crate::conversation::State;
 use std::io::{self, Cursor, ErrorKind, Write};
 use std::thread;
 
-// Writes once, some of a text's bytes from a place up to an end, and says how many.
-fn write_once<W: Write>(writer: &mut W, text: &[u8], from: usize, end: usize) -> io::Result<usize>
-    requires { (from ≤ end) × (end ≤ length text.now) }
-    ensures in_bounds { IfOk result (λ n. from + n ≤ end) }
-    ensures written { WriteAppends (W.contents writer.old) (W.contents writer.new) result (slice_range text.now from end) }
+// Writes a text, and fails where not all of it was taken. A write that an error stops which passes by itself is tried again.
+pub fn write_text<W: Write>(writer: &mut W, text: &[u8]) -> io::Result<()>
+    ensures written { OnOk result (Appends (W.contents writer.old) (W.contents writer.new) text.now) }
+    ensures part { OnErr result (AppendsPart (W.contents writer.old) (W.contents writer.new) text.now) }
 {
-    writer.write(&text[from..end])
-}
-
-// Whether a write that took nothing is worth another try.
-fn may_try_again(error: &io::Error, tries: u64) -> bool
-    ensures { result ≡ true → 0 < tries }
-{
-    tries > 0 && is_passing(error)
-}
-
-// Writes the text up to an end, and fails where not all of it was taken. A write that an error stops which passes by itself is tried again.
-pub fn write_text<W: Write>(writer: &mut W, text: &[u8], end: usize) -> io::Result<()>
-    requires { end ≤ length text.now }
-    ensures written { OnOk result (Appends (W.contents writer.old) (W.contents writer.new) (take end text.now)) }
-    ensures part { OnErr result (AppendsPart (W.contents writer.old) (W.contents writer.new) (take end text.now)) }
-{
-    let mut from = 0;
+    let mut rest = text;
     let mut tries = TRIES;
-    while from < end {
-        match write_once(writer, text, from, end) {
+    while !rest.is_empty() {
+        match writer.write(rest) {
             Ok(0) => return Err(ErrorKind::WriteZero.into()),
-            Ok(n) => from += n,
-            Err(e) => {
-                if !may_try_again(&e, tries) {
-                    return Err(e);
-                }
+            Ok(n) => rest = &rest[n..],
+            Err(e) if tries > 0 && is_passing(&e) => {
                 thread::yield_now();
                 tries -= 1;
             }
+            Err(e) => return Err(e),
         }
     }
     writer.flush()

@@ -1,11 +1,13 @@
 -- What is printed of what has arrived: the lines of the records that the runner obeyed, and bad where it is due.
 use mathlib.Core.Bool.{Bool, true, false, cond}
-use mathlib.Core.List.{List, []}
+use mathlib.Core.List.{List, [], ◌++◌}
 use mathlib.Core.Path.{◌≡◌, refl, sym, ◌∙◌, ap}
 use Prim.Native.Nat.{ℕ, ◌+◌, ◌-◌, ◌*◌, ◌^◌, ◌≤◌, ◌<◌}
 use native.Mathlib.Omega.{arith}
-use lib.ListN.{length, get_or, take, drop, get_or-append}
-use lib.Seq.{length-take-le}
+use lib.ListN.{length, get_or, take, drop, get_or-append, length-drop}
+use lib.Seq.{length-take-le, get_or-take, take-append_seam}
+use Rattle.std.specs.List.{copy_within}
+use Rattle.std.proofs.lemmas.List.{drop-take}
 use Rattle.words.specs.Lists.{put_list}
 use Rattle.words.proofs.Lists.{length-put_list, put_list_between}
 use Rattle.rules.specs.Store.{Store}
@@ -24,9 +26,10 @@ use Rattle.transcript.specs.Sessions.{obeyed, count, answered, session, failing,
 use Rattle.transcript.specs.Transcript.{transcript, batch}
 use Rattle.transcript.proofs.Sessions.{transcript_same}
 
--- what stands in an output, over which a list was stored
-standing : (xs vs : List ℕ) (n : ℕ) → n ≡ length vs → n ≤ length xs → (i : ℕ) → i < n → get_or (put_list xs 0 vs) i 0 ≡ get_or vs i 0
-standing xs vs n e h i l = rw (put_list_between xs 0 vs (omega arith)) (get_or-append vs (drop (0 + length vs) xs) 0 i (omega arith))
+-- what stands in the front of an output, over which a list was stored
+standing : (xs vs : List ℕ) (n : ℕ) → n ≡ length vs → n ≤ length xs → (i : ℕ) → i < n → get_or (take n (put_list xs 0 vs)) i 0 ≡ get_or vs i 0
+standing xs vs n e h i l =
+    rw (get_or-take n (put_list xs 0 vs) i 0 l, put_list_between xs 0 vs (omega arith)) (get_or-append vs (drop (0 + length vs) xs) 0 i (omega arith))
 
 -- what the runner's promise says of a batch, for outputs of a batch's length
 pub record Batched (golden : List ℕ) (s : Store) (records : List ℕ) (n : ℕ) (left : Store) (answers bytes : List ℕ) : Type 0 where
@@ -36,7 +39,7 @@ pub record Batched (golden : List ℕ) (s : Store) (records : List ℕ) (n : ℕ
   pub reached : left ≡ (obeyed golden s records).reached
   pub answers_length : length answers ≡ batch
   pub bytes_length : length bytes ≡ batch
-  pub lines : transcript records answers bytes n ≡ answered golden s records
+  pub lines : transcript records (take n answers) (take n bytes) n ≡ answered golden s records
 
 pub batched : (golden : List ℕ) (s : Store) (records answers₀ bytes₀ : List ℕ) → length answers₀ ≡ batch → length bytes₀ ≡ batch
     → length records ≤ record_bytes * batch → {n : ℕ} {left : Store} {answers bytes : List ℕ} → n ≡ length (steps_in records (room answers₀ bytes₀))
@@ -63,6 +66,13 @@ batched golden s records answers₀ bytes₀ full full' short {n} e l a b =
           (standing bytes₀ _ n (counted ∙ sym (length_bytes golden s (all_steps records))) (omega arith)));
     }
 
+-- a text that was stored in lent bytes, when they are back
+pub stored_as : {xs ys zs vs : List ℕ} {a e : ℕ} → vs ≡ zs → Stored xs a ys zs e → Stored xs a ys vs e
+stored_as same stored = rw same stored
+
+pub ends_as : {zs vs : List ℕ} {e : ℕ} → vs ≡ zs → e ≤ length zs → e ≤ length vs
+ends_as same inside = rw same inside
+
 -- bad, where it is due
 
 pub no_bad : (text : List ℕ) (end k : ℕ) {due : Bool} → due ≡ false → Stored text end (cond due (text_of (Bad k)) []) text end
@@ -85,6 +95,18 @@ bad_ends text end k h r s =
     let e = rw (fitting-line (length text - end) (Bad k) r) at s.end in
     let n = ap length s.bytes ∙ length-put_list text end _ in
     omega (arith, longest_bad k h)
+
+front : (xs ys : List ℕ) (n : ℕ) → length xs ≡ n → take n (xs ++ ys) ≡ xs
+front xs ys n e = rw (← e) (take-append_seam xs ys)
+
+-- the bytes from a place up to an end are moved to the front
+pub moved_front : (input : List ℕ) (at end : ℕ) → at ≤ end → end ≤ length input → {moved : List ℕ} → moved ≡ copy_within input at end 0
+    → take (end - at) moved ≡ drop at (take end input)
+moved_front input at end h l e =
+    let bytes = take (end - at) (drop at input) in
+    let long : length bytes ≡ end - at = length-take-le (end - at) (drop at input) (omega (arith, length-drop at input)) in
+    let whole : at + (end - at) ≡ end = omega arith in
+    ap (take (end - at)) e ∙ front bytes _ (end - at) long ∙ sym (drop-take at (end - at) input) ∙ ap (λ k. drop at (take k input)) whole
 
 -- An arrival: the first bytes of a buffer are obeyed, bad is said where it is due, and the rest is moved to the front
 

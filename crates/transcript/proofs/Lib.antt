@@ -1,4 +1,4 @@
-pub mod Laying
-pub mod Sessions
 pub mod Batches
-pub mod Moving
+pub mod Laying
+pub mod Passing
+pub mod Sessions

@@ -1,7 +1,8 @@
 // What the program prints of its input as it arrives (program 4 to 6, program 9).
 #![tactic(auto)]
 
-ghost use Rattle.std.specs.Prelude.{cond, [], ◌≡◌, ◌+◌, ◌-◌, ◌*◌, ◌^◌, ◌<◌, ◌≤◌, drop, length, take};
+ghost use Rattle.std.specs.Prelude.{cond, [], ◌≡◌, ◌+◌, ◌-◌, ◌*◌, ◌^◌, ◌<◌, ◌≤◌, length, take};
+ghost use Rattle.lines.specs.Added.{Added};
 ghost use Rattle.lines.specs.Lines.{longest_line, text_of};
 ghost use Rattle.lines.specs.Stored.{Stored};
 ghost use Rattle.rules.specs.Store.{lent};
@@ -11,10 +12,11 @@ ghost use Rattle.transcript.specs.Needs.{Advance};
 ghost use Rattle.transcript.specs.Sessions.{answered, count, ending, obeyed, session, told, turned};
 ghost use Rattle.transcript.specs.Transcript.{batch, line_of, transcript};
 
-use lines::{Line, put_line};
+use lines::{Line, Text};
 use steps::pagemon_run;
 use steps::records::{CALL_PLACE, RECORD_BYTES, is_spoilt};
 
+// The calls that give a byte. Call bytes and answers stay numbers: they are those of records and of the runner, which C calls too.
 const READ: u8 = 12;
 
 const FETCH: u8 = 14;
@@ -22,118 +24,75 @@ const FETCH: u8 = 14;
 const ACCEPTED: u32 = 0;
 
 // The line of a call, its answer and its byte.
+#[tactic(auto, unfolding(crate::specs::Transcript::line_of))]
 fn line_of(call: u8, answer: u32, byte: u8) -> Line
     ensures { result ≡ line_of call answer byte }
 {
-    if answer != ACCEPTED {
-        return Line::Answer(call, answer);
-    }
-    if call == READ {
-        return Line::AnswerWithByte(call, answer, byte);
-    }
-    if call == FETCH {
+    if answer == ACCEPTED && matches!(call, READ | FETCH) {
         return Line::AnswerWithByte(call, answer, byte);
     }
     Line::Answer(call, answer)
 }
 
-// Stores the lines of the first n records at the start of a text, and gives the place after them.
-fn put_lines(records: &[u8], answers: &[u32], bytes: &[u8], n: usize, text: &mut [u8]) -> usize
-    requires n_in_bounds { record_bytes * n ≤ length records.now }
-    requires n_in_bounds_2 { n ≤ length answers.now }
-    requires n_in_bounds_3 { n ≤ length bytes.now }
-    requires n_in_bounds_4 { longest_line * n ≤ length text.old }
-    ensures stored { Stored text.old 0 (transcript records.now answers.now bytes.now n) text.new result }
-    ensures upper_bound { result ≤ longest_line * n }
+// Adds the lines of the first records, of as many as there are answers. Answers and bytes come apart, as the runner gives them to C.
+fn push_lines(text: &mut Text, records: &[u8], answers: &[u32], bytes: &[u8])
+    requires whole_records { record_bytes * length answers.now ≤ length records.now }
+    requires byte_for_each { length bytes.now ≡ length answers.now }
+    requires room { text.old.end + longest_line * length answers.now ≤ length text.old.bytes.now }
+    ensures same_reference { text.new.bytes.ghost_name ≡ text.old.bytes.ghost_name }
+    ensures added { Added text.old text.new (transcript records.now answers.now bytes.now (length answers.now)) }
+    ensures upper_bound { text.new.end ≤ text.old.end + longest_line * length answers.now }
 {
-    let mut end = 0;
-    for i in 0..n {
-        let line = line_of(records[RECORD_BYTES * i + CALL_PLACE], answers[i], bytes[i]);
-        end = put_line(text, end, line);
+    for ((record, answer), byte) in records.chunks_exact(RECORD_BYTES).zip(answers).zip(bytes) {
+        text.push_line(line_of(record[CALL_PLACE], *answer, *byte));
     }
-    end
 }
 
 // The most records that are obeyed at a time.
 pub const BATCH: usize = 2048;
 
-// What came of a batch: the records obeyed, and the place after their lines.
-#[derive(Drop)]
-struct Batch {
-    obeyed: usize,
-    end: usize,
-}
-
-// Obeys records up to the first that holds no step, and stores their lines.
+// Obeys records up to the first that holds no step, adds their lines, and says how many they were. Memory, ledger and image are lent as to the
+// runner, which C calls too.
 fn obey_batch(
     memory: &mut [u8],
     ledger: &mut [u8],
     golden: &[u8],
     records: &[u8],
-    text: &mut [u8],
-) -> Batch
+    text: &mut Text,
+) -> usize
     requires records_len_bound { length records.now ≤ record_bytes * batch }
-    requires batch_in_bounds { longest_line * batch ≤ length text.old }
-    ensures obeyed_value { result.obeyed ≡ count records.now }
+    requires room { text.old.end + longest_line * batch ≤ length text.old.bytes.now }
+    ensures value { result ≡ count records.now }
     ensures ledger_after { lent memory.new ledger.new ≡ (obeyed golden.now (lent memory.old ledger.old) records.now).reached }
-    ensures stored { Stored text.old 0 (answered golden.now (lent memory.old ledger.old) records.now) text.new result.end }
-    ensures obeyed_le_batch { (result.obeyed ≤ batch) × (record_bytes * result.obeyed ≤ length records.now) × (result.end ≤ longest_line * batch) }
+    ensures same_reference { text.new.bytes.ghost_name ≡ text.old.bytes.ghost_name }
+    ensures added { Added text.old text.new (answered golden.now (lent memory.old ledger.old) records.now) }
+    ensures upper_bounds { (result ≤ batch) × (record_bytes * result ≤ length records.now) × (text.new.end ≤ text.old.end + longest_line * batch) }
 {
     let mut answers = [0u32; BATCH];
     let mut bytes = [0u8; BATCH];
     let obeyed = pagemon_run(memory, ledger, golden, records, &mut answers, &mut bytes);
-    let end = put_lines(records, &answers, &bytes, obeyed, text);
-    Batch { obeyed, end }
+    push_lines(text, records, &answers[..obeyed], &bytes[..obeyed]);
+    obeyed
 }
 
-// Moves the bytes from a place up to an end to the front.
-fn move_to_front(bytes: &mut [u8], at: usize, end: usize)
-    requires { (at ≤ end) × (end ≤ length bytes.old) }
-    ensures { take (end - at) bytes.new ≡ drop at (take end bytes.old) }
+// Adds the line that says bad, if the bytes from a place on begin no record, and says whether.
+fn judge_rest(text: &mut Text, arrived: &[u8], at: usize, obeyed: u64) -> bool
+    requires at_in_bounds { at ≤ length arrived.now }
+    requires room { longest_line ≤ length text.old.bytes.now - text.old.end }
+    ensures value { result ≡ spoilt arrived.now at }
+    ensures same_reference { text.new.bytes.ghost_name ≡ text.old.bytes.ghost_name }
+    ensures added { Added text.old text.new (cond (spoilt arrived.now at) (text_of (Line.Bad obeyed)) []) }
+    ensures end_in_bounds { text.new.end ≤ length text.new.bytes.now }
 {
-    for i in 0..end - at {
-        bytes[i] = bytes[at + i];
+    if !is_spoilt(arrived, at) {
+        return false;
     }
-}
-
-// Stores the line that says bad, after so many records.
-fn put_bad(text: &mut [u8], end: usize, obeyed: u64) -> usize
-    requires { longest_line ≤ length text.old - end }
-    ensures stored { Stored text.old end (text_of (Line.Bad obeyed)) text.new result }
-    ensures upper_bound { result ≤ length text.new }
-{
-    put_line(text, end, Line::Bad(obeyed))
-}
-
-// Whether bad is said, and the place after what is to be printed.
-#[derive(Drop)]
-struct Verdict {
-    is_over: bool,
-    end: usize,
-}
-
-// Stores the line that says bad, if the bytes from a place on begin no record.
-fn judge_rest(input: &[u8], at: usize, obeyed: u64, text: &mut [u8], end: usize) -> Verdict
-    requires at_in_bounds { at ≤ length input.now }
-    requires longest_line_in_bounds { longest_line ≤ length text.old - end }
-    ensures is_over_value { result.is_over ≡ spoilt input.now at }
-    ensures stored { Stored text.old end (cond (spoilt input.now at) (text_of (Line.Bad obeyed)) []) text.new result.end }
-    ensures end_in_bounds { result.end ≤ length text.new }
-{
-    if !is_spoilt(input, at) {
-        return Verdict {
-            is_over: false,
-            end,
-        };
-    }
-    Verdict {
-        is_over: true,
-        end: put_bad(text, end, obeyed),
-    }
+    text.push_line(Line::Bad(obeyed));
+    true
 }
 
 // A session beside its memory and ledger, and what is to be printed: how many bytes in front of the input are not obeyed yet, how many records
-// were obeyed, whether bad was said, and the place after the text.
+// were obeyed, whether bad was said, and the place after the text (`stored` of `hear` is about the caller's bytes and this place).
 #[derive(Drop)]
 pub struct Heard {
     pub kept: usize,
@@ -143,7 +102,7 @@ pub struct Heard {
 }
 
 // Obeys the records that stand whole in front of the input, after so many before them, stores what is to be printed, and moves the bytes that are
-// left over to the front (program 9).
+// left over to the front (program 9). The filled part does not come as a slice: a part of an array field cannot be lent beside other fields yet.
 pub fn hear(
     memory: &mut [u8],
     ledger: &mut [u8],
@@ -161,16 +120,22 @@ pub fn hear(
     ensures advance { Advance earlier filled result.kept result.obeyed result.is_over }
     ensures end_in_bounds { result.end ≤ length text.new }
 {
-    let done = obey_batch(memory, ledger, golden, &input[..filled], text);
-    let at = RECORD_BYTES * done.obeyed;
-    let obeyed = earlier + done.obeyed as u64;
-    let verdict = judge_rest(&input[..filled], at, obeyed, text, done.end);
-    move_to_front(input, at, filled);
+    let arrived = &input[..filled];
+    let mut text = Text {
+        bytes: text,
+        end: 0,
+    };
+    let done = obey_batch(memory, ledger, golden, arrived, &mut text);
+    let at = RECORD_BYTES * done;
+    let obeyed = earlier + done as u64;
+    let is_over = judge_rest(&mut text, arrived, at, obeyed);
+    let end = text.end;
+    input.copy_within(at..filled, 0);
     Heard {
         kept: filled - at,
         obeyed,
-        is_over: verdict.is_over,
-        end: verdict.end,
+        is_over,
+        end,
     }
 }
 
@@ -183,5 +148,10 @@ pub fn close(kept: usize, obeyed: u64, text: &mut [u8]) -> usize
     if kept == 0 {
         return 0;
     }
-    put_bad(text, 0, obeyed)
+    let mut text = Text {
+        bytes: text,
+        end: 0,
+    };
+    text.push_line(Line::Bad(obeyed));
+    text.end
 }
