@@ -118,8 +118,9 @@ pub struct Spread {
 }
 
 // Writes w into the words of a window, clears the mark of the block that holds them, and adds what is spread to the counters, or takes it away: what the
-// entries of these words give that are new, or stood there. The block's record by the number of the word, and not by `record_of`: so this is small
-// enough to be compiled into map, link and unmap.
+// entries of these words give that are new, or stood there. The block's record by the number of the word, and not by `record_of`, so that this is small:
+// it is compiled into map, link and unmap, since a call would cost a fifth of theirs.
+#[inline]
 pub fn write_entries(
     change: Change,
     memory: &mut [u8],
