@@ -81,7 +81,7 @@ pub fn put_fault(registers: &mut [u8; REGISTERS_BYTES], abort: Abort, status: u3
     registers[PENDING] = 1;
 }
 
-// Whether a fault was pending, which it no longer is (acknowledge byte, acknowledge leaves).
+// Gives the pending byte as it was, and makes it 0 (acknowledge byte, acknowledge leaves).
 #[tactic(auto, using(words::proofs::Bounded::differ, words::proofs::Bounded::same), unfolding(rules::specs::Registers::acknowledge_outcome, rules::specs::Registers::acknowledge_registers, rules::specs::Outcomes::settle, rules::specs::Refusals::answer_of))]
 pub fn acknowledge(registers: &mut [u8]) -> Result<u8, Refusal>
     ensures value { (s : Store) → answered result ≡ (acknowledge_outcome s registers.old).answer }

@@ -113,6 +113,7 @@ fn some_above_limit(level: Level, memory: &[u8], ledger: &[u8], j: usize, m: usi
     requires { TablePlaced (level_of level) memory.now ledger.now j m }
     ensures { result ≡ any m (λ i. entry_beyond 0 counter_limit ledger.now (entry_from (level_of level) memory.now j i)) }
 {
+    // An index loop: a closure of two calls would have to state what each of them asks.
     for i in 0..m {
         let e = accepted_entry_at(level, memory, j + i);
         if entry_beyond(ledger, e, WITHIN_LIMIT) {
