@@ -24,7 +24,7 @@ use ledger::marks::clear_mark;
 use ledger::refusals::Refusal;
 use ledger::region::Region;
 use ledger::table::table_type;
-use words::{WORD_BYTES, put_word};
+use words::{WORD_BYTES, put_word, some_below};
 
 // The place in the memory, in words, of an entry of the table at a block.
 fn word_index(ledger: &[u8], block: u32, index: u32) -> usize
@@ -89,12 +89,10 @@ pub fn is_occupied(region: &Region<'_>, window: Window) -> bool
     ensures { (v : specified.Level) → result ≡ occupied v (store_of region.now) window.block window.index window.words }
 {
     let j = word_index(region.ledger, window.block, window.index);
-    for k in 0..window.words as usize {
-        if !is_fault_at(region.memory, j + k) {
-            return true;
-        }
-    }
-    false
+    some_below(
+        window.words as usize,
+        |k| !is_fault_at(region.memory, j + k),
+    )
 }
 
 // The m words from word j on become w. Most mappings have one, which is stored without the loop.
@@ -120,8 +118,8 @@ pub struct Spread {
 }
 
 // Writes w into the words of a window, clears the mark of the block that holds them, and adds what is spread to the counters, or takes it away: what the
-// entries of these words give that are new, or stood there. The block's record by the number of the word, and not by `record_of`: so this is small
-// enough to be compiled into map, link and unmap.
+// entries of these words give that are new, or stood there. The block's record by the number of the word, and not by `record_of`, so that this is small:
+// it is compiled into map, link and unmap, since a call would cost a fifth of theirs.
 #[inline]
 pub fn write_entries(
     change: Change,
