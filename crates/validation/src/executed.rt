@@ -19,6 +19,7 @@ ghost use Rattle.validation.specs.Tests.{meets_count};
 use crate::hash::hash_members;
 use crate::set::BlockSet;
 use crate::table::Table;
+use entries::decode::accepted_entry_at;
 use entries::entry::Entry;
 use ledger::counters::{Counter, grants};
 use ledger::marks::mark;
@@ -87,7 +88,8 @@ impl Table<'_> {
     {
         // An index loop: a closure of two calls would have to state what each of them asks.
         for i in 0..self.entries {
-            if meets_members(&self.region, members, self.accepted_entry(i)) {
+            let e = accepted_entry_at(self.level, self.region.memory, self.first + i);
+            if meets_members(&self.region, members, e) {
                 return true;
             }
         }

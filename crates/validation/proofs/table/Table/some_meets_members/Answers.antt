@@ -6,7 +6,7 @@ pub loop-i-init : goal.loop-i-init
 loop-i-init c = scan_start _ _
 
 pub returns-then-meets_members : goal.returns-then-meets_members
-returns-then-meets_members c = scan_found _ _ c.loop-i.i (omega arith) (told (rw c.accepted_entry.ensures at c.meets_members.ensures) c.if-meets_members.true)
+returns-then-meets_members c = scan_found _ _ c.loop-i.i (omega arith) (told (rw c.accepted_entry_at-e.ensures at c.meets_members.ensures) c.if-meets_members.true)
 
 pub loop-i-preserved : goal.loop-i-preserved
-loop-i-preserved c = scan_next _ _ _ c.loop-i.invariant (omega arith) (told (rw c.accepted_entry.ensures at c.meets_members.ensures) c.if-meets_members.false)
+loop-i-preserved c = scan_next _ _ _ c.loop-i.invariant (omega arith) (told (rw c.accepted_entry_at-e.ensures at c.meets_members.ensures) c.if-meets_members.false)
