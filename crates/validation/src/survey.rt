@@ -36,7 +36,8 @@ impl Table<'_> {
         if e.is_fault() {
             return found;
         }
-        found.max(self.entry_finding(block, members, writes, e))
+        let one = self.entry_finding(block, members, writes, e);
+        found.max(one)
     }
 
     // Of a table that is created at a block. Where nothing is held against its entries, the blocks that they execute are in the set, empty before, and

@@ -13,4 +13,4 @@ returns-then-is_fault c =
 pub returns : goal.returns
 returns c =
     let value = ap finding_of c.max.ensures ∙ greater_max _ _ in
-    record { value = value ∙ ap (greater (finding_of c.args.found)) c.entry_finding.ensures.value; gathered = λ z. c.entry_finding.ensures.gathered (greater_second _ _ 2 (rw value at z)) }
+    record { value = value ∙ ap (greater (finding_of c.args.found)) c.entry_finding-one.ensures.value; gathered = λ z. c.entry_finding-one.ensures.gathered (greater_second _ _ 2 (rw value at z)) }
