@@ -173,30 +173,25 @@ found_fault v s p e found h = sym (least found) ∙ ap (greater found) (of_fault
 -- What a look gathers
 
 -- an entry that grants nothing adds nothing
-pub gathers_nothing : (s : Store) (e : Entry) (members : List ℕ) → grants executable e ≡ false → Gathered s e members members
-gathers_nothing s e members idle = record { joins = λ k. none_joins members (base s) e k idle }
+gathers_nothing : (s : Store) (e : Entry) (members : List ℕ) {w : Bool} → grants executable e ≡ false → grants writable e ≡ false → Gathered s e members members w w
+gathers_nothing s e members {w} idle silent = record { joins = λ k. none_joins members (base s) e k idle; notes = rw silent (sym (or-false w)) }
 
-pub fault_gathers : (s : Store) (e : Entry) (members : List ℕ) → is_fault e ≡ true → Gathered s e members members
+pub fault_gathers : (s : Store) (e : Entry) (members : List ℕ) {w : Bool} → is_fault e ≡ true → Gathered s e members members w w
 unfolding grants rights allows
-fault_gathers s e members h = rw (fault_is e h) (gathers_nothing s fault members refl)
+fault_gathers s e members h = rw (fault_is e h) (gathers_nothing s fault members refl refl)
 
-pub idle_gathers : (s : Store) (e : Entry) (members : List ℕ) → some_counter (λ c. grants c e) ≡ false → Gathered s e members members
-idle_gathers s e members idle = gathers_nothing s e members (no_counter (λ c. grants c e) idle executable)
-
--- a fault writes nothing
-pub fault_silent : (e : Entry) (writes : Bool) → is_fault e ≡ true → writes ≡ (writes || grants writable e)
-unfolding grants rights allows
-fault_silent e writes h = rw (fault_is e h) (sym (or-false writes))
+pub idle_gathers : (s : Store) (e : Entry) (members : List ℕ) {w : Bool} → some_counter (λ c. grants c e) ≡ false → Gathered s e members members w w
+idle_gathers s e members idle = gathers_nothing s e members (no_counter (λ c. grants c e) idle executable) (no_counter (λ c. grants c e) idle writable)
 
 pub gathered_none : (s : Store) (e : ℕ → Entry) (members : List ℕ) → EmptySet members → AllGathered s 0 e members false
 unfolding any
 gathered_none s e members empty = record { joined = empty; written = refl }
 
-pub gathered_more : (s : Store) (i : ℕ) (e : ℕ → Entry) (members members' : List ℕ) {w w' : Bool} → AllGathered s i e members w → Gathered s (e i) members members' → w' ≡ (w || grants writable (e i)) → AllGathered s (i + 1) e members' w'
-gathered_more s i e members members' before one written =
+pub gathered_more : (s : Store) (i : ℕ) (e : ℕ → Entry) (members members' : List ℕ) {w w' : Bool} → AllGathered s i e members w → Gathered s (e i) members members' w w' → AllGathered s (i + 1) e members' w'
+gathered_more s i e members members' before one =
     record {
       joined = λ k. flag_next (λ i. gives executable (e i) (base s + k)) i (before.joined k) (one.joins k);
-      written = flag_next (λ i. grants writable (e i)) i before.written written;
+      written = flag_next (λ i. grants writable (e i)) i before.written one.notes;
     }
 
 -- All of a table's entries: at one of an unaccepted form, and after one more

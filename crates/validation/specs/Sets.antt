@@ -20,9 +20,10 @@ member members b = is_set (get_or members (b / 8) 0) (b % 8)
 unfoldable pub meets_members : List ℕ → List ℕ → Entry → Bool
 meets_members ledger members e = grants writable e && some_block (cover_first e) (cover_blocks e) (λ b. member members (record_of ledger b))
 
--- create 11, create 12: what one look at an entry adds: the blocks that it executes join the set
-pub record Gathered (s : Store) (e : Entry) (members members' : List ℕ) : Type 0 where
+-- create 11, create 12: what one look at an entry adds: the blocks that it executes join the set, and that it writes is noted
+pub record Gathered (s : Store) (e : Entry) (members members' : List ℕ) (writes writes' : Bool) : Type 0 where
   pub joins : (k : ℕ) → member members' k ≡ (member members k || gives executable e (base s + k))
+  pub notes : writes' ≡ (writes || grants writable e)
 
 -- create 11, create 12: what one look at each of the m entries e adds to an empty set; and whether one of them writes
 pub record AllGathered (s : Store) (m : ℕ) (e : ℕ → Entry) (members : List ℕ) (writes : Bool) : Type 0 where

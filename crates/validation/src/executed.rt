@@ -19,11 +19,13 @@ ghost use Rattle.validation.specs.Tests.{meets_count};
 use crate::hash::hash_members;
 use crate::set::BlockSet;
 use crate::table::Table;
+use entries::decode::accepted_entry_at;
 use entries::entry::Entry;
 use ledger::counters::{Counter, grants};
 use ledger::marks::mark;
 use ledger::refusals::Refusal;
 use ledger::region::Region;
+use words::some_below;
 
 // The blocks that the entry executes join the set.
 pub fn insert_executed(region: &Region<'_>, members: &mut BlockSet, e: Entry)
@@ -80,18 +82,21 @@ pub fn admit_members(ledger: &mut [u8], members: &BlockSet, n: usize, hashed: u3
 }
 
 impl Table<'_> {
+    // Entry i does.
+    fn meets_members(&self, members: &BlockSet, i: usize) -> bool
+        requires { InPlace self.now × (i < self.now.entries) }
+        ensures { result ≡ meets_members self.now.region.ledger.now members.now.bits (entries_of self.now i) }
+    {
+        let e = accepted_entry_at(self.level, self.region.memory, self.first + i);
+        meets_members(&self.region, members, e)
+    }
+
     // Some entry does.
     fn some_meets_members(&self, members: &BlockSet) -> bool
         requires { InPlace self.now }
         ensures { result ≡ any self.now.entries (λ i. meets_members self.now.region.ledger.now members.now.bits (entries_of self.now i)) }
     {
-        // An index loop: a closure of two calls would have to state what each of them asks.
-        for i in 0..self.entries {
-            if meets_members(&self.region, members, self.accepted_entry(i)) {
-                return true;
-            }
-        }
-        false
+        some_below(self.entries, |i| self.meets_members(members, i))
     }
 
     // The same, where it is known whether some entry writes.

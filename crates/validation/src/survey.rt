@@ -1,8 +1,7 @@
 // One look at a table: the greatest of what is found of its entries. It ends at an entry that is not accepted.
-ghost use Rattle.std.specs.Prelude.{◌||◌, ◌≡◌, ◌<◌};
+ghost use Rattle.std.specs.Prelude.{◌≡◌, ◌<◌};
 ghost use Rattle.entries.specs.Meaning.{level_of, meaning};
-ghost use Rattle.rules.specs.Store.{base, blocks, writable};
-ghost use Rattle.rules.specs.Tables.{grants};
+ghost use Rattle.rules.specs.Store.{base, blocks};
 ghost use Rattle.ledger.specs.Regions.{store_of};
 ghost use Rattle.validation.specs.Findings.{entry_finding, finding_of, greater, new_finding, old_finding, place_finding};
 ghost use Rattle.validation.specs.Sets.{AllGathered, EmptySet, Gathered};
@@ -12,7 +11,6 @@ use crate::finding::Finding;
 use crate::set::BlockSet;
 use crate::table::Table;
 use entries::entry::Entry;
-use ledger::counters::{Counter, grants};
 
 // What is found of entries, and whether one of them writes.
 #[derive(Clone, Copy)]
@@ -22,19 +20,24 @@ pub struct Survey {
 }
 
 impl Table<'_> {
-    // The survey with one more entry of a table that is created at a block. Faults, which fill most tables, are told first.
-    fn survey_with(&self, block: u32, members: &mut BlockSet, survey: Survey, e: Entry) -> Survey
-        ensures value { finding_of result.found ≡ greater (finding_of survey.found) (entry_finding (level_of self.now.level) (store_of self.now.region) block (meaning e)) }
-        ensures written { result.writes ≡ (survey.writes || grants writable (meaning e)) }
-        ensures gathered { finding_of result.found < 2 → Gathered (store_of self.now.region) (meaning e) members.old.bits members.new.bits }
+    // The greater of what was found before and what is found of one more entry, of a table that is created at a block. Faults, which fill most tables, are
+    // told first.
+    fn found_with(
+        &self,
+        block: u32,
+        members: &mut BlockSet,
+        writes: &mut bool,
+        found: Finding,
+        e: Entry,
+    ) -> Finding
+        ensures value { finding_of result ≡ greater (finding_of found) (entry_finding (level_of self.now.level) (store_of self.now.region) block (meaning e)) }
+        ensures gathered { finding_of result < 2 → Gathered (store_of self.now.region) (meaning e) members.old.bits members.new.bits writes.old writes.new }
     {
         if e.is_fault() {
-            return survey;
+            return found;
         }
-        Survey {
-            found: survey.found.max(self.entry_finding(block, members, e)),
-            writes: survey.writes || grants(Counter::Writable, e),
-        }
+        let one = self.entry_finding(block, members, writes, e);
+        found.max(one)
     }
 
     // Of a table that is created at a block. Where nothing is held against its entries, the blocks that they execute are in the set, empty before, and
@@ -44,17 +47,15 @@ impl Table<'_> {
         ensures value { finding_of result.found ≡ new_finding (level_of self.now.level) (store_of self.now.region) block self.now.entries (entries_of self.now) }
         ensures all_gathered { finding_of result.found < 2 → AllGathered (store_of self.now.region) self.now.entries (entries_of self.now) members.new.bits result.writes }
     {
-        let mut survey = Survey {
-            found: Finding::Fine,
-            writes: false,
-        };
+        let mut found = Finding::Fine;
+        let mut writes = false;
         for i in 0..self.entries {
-            survey = self.survey_with(block, members, survey, self.entry(i));
-            if survey.found == Finding::Unaccepted {
-                return survey;
+            found = self.found_with(block, members, &mut writes, found, self.entry(i));
+            if found == Finding::Unaccepted {
+                return Survey { found, writes };
             }
         }
-        survey
+        Survey { found, writes }
     }
 
     // What is found of one entry of a table that is freed.

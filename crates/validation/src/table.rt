@@ -1,10 +1,9 @@
 // A table: words of a region's memory, each an entry.
-ghost use Rattle.std.specs.Prelude.{false, ◌≡◌, ◌<◌};
-ghost use Rattle.entries.specs.Entries.{is_unaccepted};
+ghost use Rattle.std.specs.Prelude.{◌≡◌, ◌<◌};
 ghost use Rattle.entries.specs.Meaning.{meaning};
 ghost use Rattle.validation.specs.Needs.{HoldsWords};
 
-use entries::decode::{accepted_entry_at, entry_at};
+use entries::decode::entry_at;
 use entries::entry::{Entry, Level};
 use ledger::region::Region;
 
@@ -26,14 +25,5 @@ impl Table<'_> {
         ensures { meaning result ≡ entries_of self.now i }
     {
         entry_at(self.level, self.region.memory, self.first + i)
-    }
-
-    // The same, where it is known that it is accepted.
-    pub fn accepted_entry(&self, i: usize) -> Entry
-        requires inside { i < self.now.entries }
-        requires accepted { is_unaccepted (entries_of self.now i) ≡ false }
-        ensures { meaning result ≡ entries_of self.now i }
-    {
-        accepted_entry_at(self.level, self.region.memory, self.first + i)
     }
 }

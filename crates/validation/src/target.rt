@@ -86,11 +86,17 @@ impl Table<'_> {
     }
 
     // What is found of the target of an accepted entry whose place is in the region. Where nothing is held against it, the blocks that it executes join
-    // the set.
-    fn target_finding(&self, block: u32, members: &mut BlockSet, e: Entry) -> Finding
+    // the set, and that it writes is noted.
+    fn target_finding(
+        &self,
+        block: u32,
+        members: &mut BlockSet,
+        writes: &mut bool,
+        e: Entry,
+    ) -> Finding
         requires { InRegion self.now.region.memory.now self.now.region.ledger.now (meaning e) × EntryRecorded self.now.region.ledger.now (meaning e) }
         ensures value { finding_of result ≡ target_finding (level_of self.now.level) (store_of self.now.region) block (meaning e) }
-        ensures gathered { finding_of result < 2 → Gathered (store_of self.now.region) (meaning e) members.old.bits members.new.bits }
+        ensures gathered { finding_of result < 2 → Gathered (store_of self.now.region) (meaning e) members.old.bits members.new.bits writes.old writes.new }
     {
         if self.is_unfit(block, e) {
             return Finding::Misplaced;
@@ -98,6 +104,7 @@ impl Table<'_> {
         if meets_count(&self.region, e) {
             return Finding::MeetsCount;
         }
+        *writes |= grants(Counter::Writable, e);
         if grants(Counter::Executable, e) {
             insert_executed(&self.region, members, e);
             return Finding::Executes;
@@ -106,9 +113,15 @@ impl Table<'_> {
     }
 
     // What is found of one entry of a table that is created at a block.
-    pub fn entry_finding(&self, block: u32, members: &mut BlockSet, e: Entry) -> Finding
+    pub fn entry_finding(
+        &self,
+        block: u32,
+        members: &mut BlockSet,
+        writes: &mut bool,
+        e: Entry,
+    ) -> Finding
         ensures value { finding_of result ≡ entry_finding (level_of self.now.level) (store_of self.now.region) block (meaning e) }
-        ensures gathered { finding_of result < 2 → Gathered (store_of self.now.region) (meaning e) members.old.bits members.new.bits }
+        ensures gathered { finding_of result < 2 → Gathered (store_of self.now.region) (meaning e) members.old.bits members.new.bits writes.old writes.new }
     {
         if e.is_unaccepted() {
             return Finding::Unaccepted;
@@ -117,7 +130,7 @@ impl Table<'_> {
             return Finding::Misplaced;
         }
         if grants_some(e) {
-            return self.target_finding(block, members, e);
+            return self.target_finding(block, members, writes, e);
         }
         Finding::Fine
     }

@@ -10,8 +10,8 @@ use Rattle.validation.proofs.table.Table.survey_new.Given as goal
 
 abbrev pub invariant-loop-i : goal.invariant-loop-i
 invariant-loop-i l =
-    (l.i ≤ l.self.entries) × (finding_of l.survey.found ≡ new_finding (level_of l.self.level) (store_of l.self.region) l.block l.i (entries_of l.self))
-    × (finding_of l.survey.found < 2 → AllGathered (store_of l.self.region) l.i (entries_of l.self) l.members.bits l.survey.writes)
+    (l.i ≤ l.self.entries) × (finding_of l.found ≡ new_finding (level_of l.self.level) (store_of l.self.region) l.block l.i (entries_of l.self))
+    × (finding_of l.found < 2 → AllGathered (store_of l.self.region) l.i (entries_of l.self) l.members.bits l.writes)
 
 abbrev pub decreases-loop-i : goal.decreases-loop-i
 decreases-loop-i l = l.self.entries - l.i
