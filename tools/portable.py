@@ -37,10 +37,9 @@ MOST_ALIGNMENT = 8
 NUMBER = r"i(?:1|8|16|32|64)"
 TYPE = rf"(?:{NUMBER}|ptr)"
 # What a function of the module returns to another: two numbers, laid out alike on both targets.
-PAIR = r"\{ i32, i(?:32|8) \}"
-PAIR_BYTES = 8
+PAIR = r"\{ (?:i8, i(?:8|32|64)|i32, i(?:8|32)|i64, i64) \}"
 NAME = r"%[a-z]+\.?[0-9]*"
-FUNCTION = r'@(?:"[\w:]+"|\w+)'
+FUNCTION = r'@(?:"[^"\\]+"|\w+)'
 CONSTANT = r"(?:-?[0-9]+|true|false)"
 VALUE = rf"(?:{NAME}|{CONSTANT})"
 LABEL = r"[a-z]+(?:\.[0-9]+)?"
@@ -51,7 +50,7 @@ ALIGN = r"align (?P<align>[0-9]+)"
 INSTRUCTIONS = {kind: re.compile(form) for kind, form in {
     "alloca": rf"(?P<to>{NAME}) = alloca (?P<type>{TYPE}|\[[0-9]{{1,6}} x i8\]), {ALIGN}",
     "load": rf"(?P<to>{NAME}) = load (?P<type>{TYPE}), ptr (?P<at>{NAME}), {ALIGN}(?:, !range !2)?(?:, !noundef !1)?",
-    "pair": rf"{NAME} = load {PAIR}, ptr (?P<at>{NAME}), {ALIGN}",
+    "pair": rf"{NAME} = load (?P<type>{PAIR}), ptr (?P<at>{NAME}), {ALIGN}",
     "part": rf"{NAME} = extractvalue {PAIR} {NAME}, [01]",
     "store": rf"store (?P<type>{TYPE}) (?P<value>{VALUE}|{CONSTANT_NAME}), ptr (?P<at>{NAME}), {ALIGN}",
     "element": rf"(?P<to>{NAME}) = getelementptr (?:inbounds nuw )?i8, ptr (?P<at>{NAME}), i64 (?P<value>{VALUE})",
@@ -76,8 +75,9 @@ INSTRUCTIONS = {kind: re.compile(form) for kind, form in {
 PARAMETER = rf"{TYPE} (?:noundef )?(?:zeroext )?{NAME}"
 # Bytes that nothing writes.
 STATIC = re.compile(rf'(?P<name>{CONSTANT_NAME}) = private unnamed_addr constant \[(?P<bytes>[0-9]{{1,6}}) x i8\] c"(?:[^"\\]|\\[0-9A-F]{{2}})*", align 1')
-DEFINITION = re.compile(rf"define (?P<internal>internal )?(?P<result>void|noundef (?:{NUMBER}|{PAIR})|noundef zeroext i1) (?P<name>{FUNCTION})"
-                        rf"\((?P<parameters>(?:{PARAMETER}(?:, {PARAMETER})*)?)\) #0 \{{")
+# A result or parameter that is not noundef may have no value, as what stands beside None. #1, where it is, asks that a function be compiled into its callers.
+DEFINITION = re.compile(rf"define (?P<internal>internal )?(?P<result>void|(?:noundef )?(?:{NUMBER}|{PAIR})|noundef zeroext i1) (?P<name>{FUNCTION})"
+                        rf"\((?P<parameters>(?:{PARAMETER}(?:, {PARAMETER})*)?)\) #[01] \{{")
 # What C and the archive agree on in both calling conventions: addresses, words of 32 and 64 bits, and a bool. The names are none of a compiler's own.
 EXPORTED = re.compile(r"(?:ptr|i32|i64) noundef %a[0-9]+")
 EXPORTED_NAME = re.compile(r"@(?:pagemon|signature)_\w+")
@@ -89,6 +89,7 @@ OUTSIDE = [re.compile(form) for form in (
     r"declare void @llvm\.memset\.p0\.i64\(ptr writeonly captures\(none\), i8, i64, i1 immarg\) #[0-9]",
     r"declare void @llvm\.trap\(\) #[0-9]",
     rf"attributes #0 = \{{ nounwind{re.escape(TARGET_ATTRIBUTES)} \}}",
+    rf"attributes #1 = \{{ inlinehint nounwind{re.escape(TARGET_ATTRIBUTES)} \}}",
     r"attributes #[1-9] = \{ cold noreturn nounwind memory\(inaccessiblemem: write\) \}",
     r"attributes #[1-9] = \{ nocallback nofree nounwind willreturn memory\(argmem: (?:readwrite|write)\) \}",
     r"!llvm\.ident = !\{!0\}",
@@ -120,6 +121,12 @@ def read_instruction(line):
 
 def size_of(type_):
     return ADDRESS_BYTES if type_ == "ptr" else (int(type_[1:]) + 7) // 8
+
+
+def pair_size(type_):
+    """The second number of a pair begins at a multiple of its size, which for none is more than 8 bytes: so on both targets."""
+    first, second = map(size_of, re.findall(r"i[0-9]+", type_))
+    return 2 * max(first, second)
 
 
 class Region:
@@ -227,7 +234,7 @@ class Places:
             self.unused[parts["to"]] = parts["type"]
 
     def follow_pair(self, parts):
-        self.use(self.place(parts["at"]), PAIR_BYTES)
+        self.use(self.place(parts["at"]), pair_size(parts["type"]))
 
     def follow_alloca(self, parts):
         self.locals[parts["to"]] = Region(), 0
@@ -369,8 +376,8 @@ def check(text):
     return reader.exports
 
 
-def replaced(text, old, new):
-    if text.count(old) != 1:
+def replaced(text, old, new, times=(1,)):
+    if text.count(old) not in times:
         raise Refused(f"{old.strip()} stands there {text.count(old)} times")
     return text.replace(old, new)
 
@@ -380,7 +387,7 @@ def retargeted(text, layout, triple):
     the module says that it goes with both ways of passing them."""
     text = replaced(text, f'target datalayout = "{LAYOUT}"\n', f'target datalayout = "{layout}"\n')
     text = replaced(text, f'target triple = "{TRIPLE}"\n', f'target triple = "{triple}"\n\nmodule asm ".eabi_attribute Tag_ABI_VFP_args, 3"\n')
-    return replaced(text, TARGET_ATTRIBUTES, "")
+    return replaced(text, TARGET_ATTRIBUTES, "", (1, 2))
 
 
 def target_of(text):

@@ -5,6 +5,7 @@ ghost use Rattle.entries.specs.Entries.{l1};
 ghost use Rattle.entries.specs.Meaning.{level_of, right_of};
 ghost use Rattle.rules.specs.Guest.{active_walk, byte_index, fetches, guest_outcome, guest_refusals, guest_registers, needed, no_active_table, raised, reads, registers_after, walk_level, walk_refusals, write_bit, writes};
 ghost use Rattle.rules.specs.Refusals.{◌if◌, answer_of};
+ghost use Rattle.rules.specs.Registers.{registers_bytes};
 ghost use Rattle.rules.specs.Store.{active, base, block_bytes, lent};
 ghost use Rattle.rules.specs.Tables.{table_blocks};
 ghost use Rattle.ledger.specs.Needs.{InLedger};
@@ -95,7 +96,8 @@ fn locate(blocks: &Blocks<'_>, table: u32, access: Access, address: u32) -> Resu
 
 // Tells of a refusal at an entry: 22 and 23 are faults of its level, and any other leaves the registers (registers 6, registers 7).
 #[tactic(auto, unfolding(rules::specs::Guest::registers_after))]
-fn tell(registers: &mut [u8; REGISTERS_BYTES], access: Access, stop: Stop, address: u32)
+fn tell(registers: &mut [u8], access: Access, stop: Stop, address: u32)
+    requires { length registers.old ≡ registers_bytes }
     ensures { registers.new ≡ registers_after (access_of access) registers.old address (level_of stop.level) (number_of stop.refusal) }
 {
     let fault = match stop.refusal {
@@ -126,9 +128,9 @@ fn judge(
     ensures in_memory { IfOk result (λ j. j < length memory.now) }
     ensures recorded { IfOk result (λ j. InLedger ledger.now (j / block_bytes + 1)) }
 {
-    let Some(registers) = registers.as_mut_array::<REGISTERS_BYTES>() else {
+    if registers.len() != REGISTERS_BYTES {
         return Err(Refusal::Misfit);
-    };
+    }
     let region = Region::new(memory, ledger)?;
     let table = active_table(&region)?;
     let blocks = Blocks {

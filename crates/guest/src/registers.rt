@@ -1,7 +1,7 @@
 // The fault registers (RULES: registers, acknowledge).
 ghost use Rattle.std.specs.Int.{from_bool};
-ghost use Rattle.std.specs.Prelude.{◌≡◌};
-ghost use Rattle.rules.specs.Registers.{acknowledge_outcome, acknowledge_registers, address_place, fault_code, put_fault, status_place, status_word};
+ghost use Rattle.std.specs.Prelude.{◌≡◌, length};
+ghost use Rattle.rules.specs.Registers.{acknowledge_outcome, acknowledge_registers, address_place, fault_code, put_fault, registers_bytes, status_place, status_word};
 ghost use Rattle.rules.specs.Store.{Store};
 ghost use Rattle.ledger.specs.Refusals.{answered, given};
 ghost use Rattle.guest.specs.Meaning.{abort_of, fault_of};
@@ -10,6 +10,7 @@ use entries::entry::Level;
 use ledger::refusals::Refusal;
 use words::put_word;
 
+// A slice of this length, and no array: the archives for ARMv7 take no function that returns an address (tools/portable.py), as as_mut_array does.
 pub const REGISTERS_BYTES: usize = 17;
 
 const DFSR: usize = 0;
@@ -72,7 +73,8 @@ pub fn status_word(code: u32, write: bool) -> u32
 
 // Stores a fault: its status, its address, and that it is pending (registers 6).
 #[tactic(auto, unfolding(rules::specs::Registers::put_fault))]
-pub fn put_fault(registers: &mut [u8; REGISTERS_BYTES], abort: Abort, status: u32, address: u32)
+pub fn put_fault(registers: &mut [u8], abort: Abort, status: u32, address: u32)
+    requires { length registers.old ≡ registers_bytes }
     ensures { registers.new ≡ put_fault registers.old (abort_of abort) status address }
 {
     let (status_at, address_at) = abort.places();
@@ -88,9 +90,9 @@ pub fn acknowledge(registers: &mut [u8]) -> Result<u8, Refusal>
     ensures pending { (s : Store) → given result ≡ (acknowledge_outcome s registers.old).byte }
     ensures registers_after { registers.new ≡ acknowledge_registers registers.old }
 {
-    let Some(registers) = registers.as_mut_array::<REGISTERS_BYTES>() else {
+    if registers.len() != REGISTERS_BYTES {
         return Err(Refusal::Misfit);
-    };
+    }
     let pending = registers[PENDING];
     registers[PENDING] = 0;
     Ok(pending)

@@ -21,7 +21,7 @@ pub fn some_differs(ledger: &[u8], field: Field, b: usize, m: usize, v: u32) -> 
     if m == 1 {
         return record_word(ledger, field, b) != v;
     }
-    some_below(m, |i| record_word(ledger, field, b + i) != v)
+    some_below(m, move |i| record_word(ledger, field, b + i) != v)
 }
 
 // The field is above 0 in some of the m records from block b on.
@@ -62,6 +62,9 @@ impl Region<'_> {
         if !some_differs(self.ledger, Field::Mark, b, m as usize, MARKED) {
             return false;
         }
-        some_below(m as usize, |i| self.is_unknown(golden, p + i as u32))
+        let region = *self;
+        some_below(m as usize, move |i| {
+            region.is_unknown(golden, p + i as u32)
+        })
     }
 }

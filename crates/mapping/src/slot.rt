@@ -89,9 +89,10 @@ pub fn is_occupied(region: &Region<'_>, window: Window) -> bool
     ensures { (v : specified.Level) → result ≡ occupied v (store_of region.now) window.block window.index window.words }
 {
     let j = word_index(region.ledger, window.block, window.index);
+    let memory = region.memory;
     some_below(
         window.words as usize,
-        |k| !is_fault_at(region.memory, j + k),
+        move |k| !is_fault_at(memory, j + k),
     )
 }
 

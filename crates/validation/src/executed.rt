@@ -96,7 +96,8 @@ impl Table<'_> {
         requires { InPlace self.now }
         ensures { result ≡ any self.now.entries (λ i. meets_members self.now.region.ledger.now members.now.bits (entries_of self.now i)) }
     {
-        some_below(self.entries, |i| self.meets_members(members, i))
+        let table = *self;
+        some_below(self.entries, move |i| table.meets_members(members, i))
     }
 
     // The same, where it is known whether some entry writes.

@@ -70,6 +70,6 @@ impl BlockSet {
         requires { b + m ≤ most_blocks }
         ensures { result ≡ any m (λ i. member self.now.bits (b + i)) }
     {
-        some_below(m, |i| self.contains(b + i))
+        some_below(m, move |i| self.contains(b + i))
     }
 }

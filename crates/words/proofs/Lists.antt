@@ -7,7 +7,7 @@ use native.Mathlib.Nat.{add-zero, add-suc, suc-add}
 use native.Mathlib.Numerals.{add-one}
 use native.Mathlib.Omega.{arith}
 use lib.ListN.{length, get_or, take, drop, set, length-append, length-take, length-drop, length-set, replicate, length-replicate, get_or-append}
-use lib.Seq.{get_or-take, get_or-drop, get_or_at, get_or-set_same, get_or-set_other, take-suc-set, take_all, ext_get_or, sets, sets-eq}
+use lib.Seq.{get_or-take, get_or-drop, get_or_at, get_or-set_same, get_or-set_other, take-suc-set, take_all, take-suc, length-take-le, ext_get_or, sets, sets-eq}
 use borrow.Rule.Slice.PartMut.{put_mid}
 use Rattle.std.proofs.lemmas.Slice.{put_mid-paste}
 use Rattle.std.proofs.lemmas.List.Edits.{paste_all}
@@ -62,6 +62,14 @@ pub put_list-append : (xs : List ℕ) (a : ℕ) (ys zs : List ℕ) → put_list 
 unfolding put_list
 put_list-append xs a [] zs = rw add-zero refl
 put_list-append xs a (y ∷ ys) zs = rw (add-suc, ← suc-add) (put_list-append (set xs a y) (suc a) ys zs)
+
+-- the turn of a loop that stores element after element
+pub put_list_turn : (xs : List ℕ) (a : ℕ) (ys : List ℕ) (i : ℕ) {zs : List ℕ} → i < length ys → zs ≡ put_list xs a (take i ys)
+    → set zs (a + i) (get_or ys i 0) ≡ put_list xs a (take (i + 1) ys)
+unfolding put_list
+put_list_turn xs a ys i h e =
+    let l = length-take-le i ys (omega arith) in
+    rw (e, add-one, take-suc ys i 0 h) (rw l at (put_list-append xs a (take i ys) (get_or ys i 0 ∷ [])))
 
 -- the library's run of stores
 stores : (xs : List ℕ) (a : ℕ) (ys : List ℕ) → put_list xs a ys ≡ sets xs a ys

@@ -31,7 +31,11 @@ pub fn put_word(s: &mut [u8], at: usize, v: u32)
     requires { at + 4 ≤ length s.old }
     ensures { s.new ≡ put_word s.old at v }
 {
-    s[at..at + WORD_BYTES].copy_from_slice(&v.to_le_bytes());
+    let [a, b, c, d] = v.to_le_bytes();
+    s[at] = a;
+    s[at + 1] = b;
+    s[at + 2] = c;
+    s[at + 3] = d;
 }
 
 // The n bits of v from bit lo on.
@@ -47,7 +51,10 @@ pub fn put_bytes(s: &mut [u8], at: usize, bytes: &[u8])
     requires { at + length bytes.now ≤ length s.old }
     ensures { s.new ≡ put_list s.old at bytes.now }
 {
-    s[at..at + bytes.len()].copy_from_slice(bytes);
+    // Not by copy_from_slice: the archives for ARMv7 take no function that returns an address (tools/portable.py).
+    for i in 0..bytes.len() {
+        s[at + i] = bytes[i];
+    }
 }
 
 // b is one of the m numbers from p on. The end of these need not fit a word.
