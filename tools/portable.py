@@ -177,11 +177,11 @@ class Places:
 
     def __init__(self):
         self.parameters, self.locals, self.alone, self.moves = {}, {}, set(), []
-        self.unused, self.constants = {}, {}
+        self.unused, self.constants, self.internal = {}, {}, False
 
-    def enter(self, name, parameters):
-        """Starts a function: its parameters are places."""
-        self.alone, self.unused = set(), {}
+    def enter(self, name, parameters, internal):
+        """Starts a function: its parameters are places. What leads to memory that holds an address is kept by functions that are no export alone."""
+        self.alone, self.unused, self.internal = set(), {}, internal
         self.locals = {parameter: (self.parameter(name, index), 0) for index, (type_, parameter) in enumerate(parameters) if type_ == "ptr"}
 
     def parameter(self, name, index):
@@ -249,14 +249,15 @@ class Places:
     def follow_load(self, parts):
         place = self.place(parts["at"], parts["type"])
         if parts["type"] == "ptr":
-            self.locals[parts["to"]] = self.target(place), None
+            self.locals[parts["to"]] = self.target(place), 0 if self.internal else None
         else:
             self.use(place, size_of(parts["type"]))
 
     def follow_store(self, parts):
         place = self.place(parts["at"], parts["type"])
         if parts["type"] == "ptr":
-            join(self.target(place), self.place(parts["value"])[0], None)
+            region, offset = self.place(parts["value"])
+            join(self.target(place), region, -offset if self.internal and offset is not None else None)
         else:
             self.use(place, size_of(parts["type"]))
 
@@ -341,7 +342,7 @@ class Reader:
         if not definition["internal"]:
             check_export(definition)
             self.exports.append(definition["name"].lstrip("@"))
-        self.places.enter(definition["name"], parameters)
+        self.places.enter(definition["name"], parameters, definition["internal"])
         if not definition["internal"]:
             self.lent.extend(region for region, _ in self.places.locals.values())
 

@@ -50,7 +50,8 @@ impl Region<'_> {
         if is_marked(self.ledger, self.record_of(p)) {
             return false;
         }
-        !is_signed_block(self.memory, golden, self.base(), p)
+        let memory = self.memory;
+        !is_signed_block(memory, golden, self.base(), p)
     }
 
     // Some of the m blocks from p on is. Where all are marked, nothing but their marks is looked at.
@@ -62,9 +63,12 @@ impl Region<'_> {
         if !some_differs(self.ledger, Field::Mark, b, m as usize, MARKED) {
             return false;
         }
-        let region = *self;
-        some_below(m as usize, move |i| {
-            region.is_unknown(golden, p + i as u32)
-        })
+        // An index loop: a closure that holds parts of a region is no form that the archives for ARMv7 take (tools/portable.py).
+        for i in 0..m {
+            if self.is_unknown(golden, p + i) {
+                return true;
+            }
+        }
+        false
     }
 }

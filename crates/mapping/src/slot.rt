@@ -24,7 +24,7 @@ use ledger::marks::clear_mark;
 use ledger::refusals::Refusal;
 use ledger::region::Region;
 use ledger::table::table_type;
-use words::{WORD_BYTES, put_word, some_below};
+use words::{WORD_BYTES, put_word};
 
 // The place in the memory, in words, of an entry of the table at a block.
 fn word_index(ledger: &[u8], block: u32, index: u32) -> usize
@@ -55,8 +55,9 @@ impl TableIndex<'_> {
     pub fn entry(&self) -> Entry
         ensures { meaning result ≡ table_entry (level_of self.now.level) (store_of self.now.region) self.now.block self.now.index }
     {
+        let memory = self.region.memory;
         let j = word_index(self.region.ledger, self.block, self.index);
-        entry_at(self.level, self.region.memory, j)
+        entry_at(self.level, memory, j)
     }
 
     // Refusals 5 and 7 of the block that holds the entry.
@@ -89,11 +90,13 @@ pub fn is_occupied(region: &Region<'_>, window: Window) -> bool
     ensures { (v : specified.Level) → result ≡ occupied v (store_of region.now) window.block window.index window.words }
 {
     let j = word_index(region.ledger, window.block, window.index);
-    let memory = region.memory;
-    some_below(
-        window.words as usize,
-        move |k| !is_fault_at(memory, j + k),
-    )
+    // An index loop: a closure that holds parts of a region is no form that the archives for ARMv7 take (tools/portable.py).
+    for k in 0..window.words as usize {
+        if !is_fault_at(region.memory, j + k) {
+            return true;
+        }
+    }
+    false
 }
 
 // The m words from word j on become w. Most mappings have one, which is stored without the loop.

@@ -25,7 +25,6 @@ use ledger::counters::{Counter, grants};
 use ledger::marks::mark;
 use ledger::refusals::Refusal;
 use ledger::region::Region;
-use words::some_below;
 
 // The blocks that the entry executes join the set.
 pub fn insert_executed(region: &Region<'_>, members: &mut BlockSet, e: Entry)
@@ -96,8 +95,13 @@ impl Table<'_> {
         requires { InPlace self.now }
         ensures { result ≡ any self.now.entries (λ i. meets_members self.now.region.ledger.now members.now.bits (entries_of self.now i)) }
     {
-        let table = *self;
-        some_below(self.entries, move |i| table.meets_members(members, i))
+        // An index loop: a closure that holds parts of a region is no form that the archives for ARMv7 take (tools/portable.py).
+        for i in 0..self.entries {
+            if self.meets_members(members, i) {
+                return true;
+            }
+        }
+        false
     }
 
     // The same, where it is known whether some entry writes.

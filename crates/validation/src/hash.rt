@@ -20,8 +20,9 @@ fn hash_block(region: &Region<'_>, golden: &[u8], members: &BlockSet, b: usize) 
     if is_marked(region.ledger, b) {
         return Some(0);
     }
+    let memory = region.memory;
     let first = region.base();
-    if is_signed_block(region.memory, golden, first, first + b as u32) {
+    if is_signed_block(memory, golden, first, first + b as u32) {
         return Some(1);
     }
     None

@@ -10,8 +10,8 @@ use ledger::region::Region;
 // The entries of a table of a level, from word `first` of the memory on.
 #[derive(Clone, Copy)]
 pub struct Table<'a> {
-    pub level: Level,
     pub region: Region<'a>,
+    pub level: Level,
     pub first: usize,
     pub entries: usize,
     ghost holds_words: { HoldsWords region.memory.now first entries },
