@@ -36,6 +36,8 @@ fn round_of(s: [u32; 8], k: u32, w: u32) -> [u32; 8]
     ]
 }
 
+// That k is the table is asked for here and below: it is lent, since a static of words, whose type would say it, is no form that the archives for ARMv7
+// take (tools/portable.py).
 // Eight rounds from round t on: after eight, each working variable stands in its own place again.
 fn eight_rounds(s: [u32; 8], k: &[u32; 64], w: &[u32; 64], t: usize) -> [u32; 8]
     requires { (k.now ≡ K) × (t + 8 ≤ 64) }
