@@ -140,6 +140,7 @@ def place(instruction, _start=0):
 TABLE_ENTRY_BYTES = 4
 TABLE_STEPS = (4, 5, 6)
 PLAIN_LOAD = re.compile(r"[DQ]WORD PTR \[[^\]]*\]")
+IN_FRAME = re.compile(r"[DQ]WORD PTR \[rsp(?:\+0x[0-9a-f]+)?\]")
 TABLE_FORM = re.compile(r"lea (?P<base>r\w+),\[rip\+0x0\]\n"
                         r"movsxd (?P<to>r\w+),DWORD PTR \[(?P=base)\+r\w+\*4\]\n"
                         r"add (?P=to),(?P=base)\n"
@@ -158,9 +159,16 @@ def is_aside(text, jump):
     return mnemonic in ("mov", "xor") and all(WHOLE.get(operand, kept[0]) not in kept for operand in operands)
 
 
+def is_kept_aside(text):
+    """The instruction stores a register in the function's frame, and changes none."""
+    mnemonic, operands = parts(text)
+    return mnemonic == "mov" and IN_FRAME.fullmatch(operands[0]) is not None and operands[1] in WHOLE
+
+
 def table_base(instructions):
     """Symbol and offset of the table by which the last of these four instructions jumps: entries are distances from the table's start. Before the
-    jump two more may stand that have nothing to do with it."""
+    jump two more may stand that have nothing to do with it, and stores among them."""
+    instructions = [instruction for instruction in instructions if not is_kept_aside(instruction.text)]
     if all(is_aside(aside.text, instructions[-1].text) for aside in instructions[3:-1]):
         instructions = instructions[:3] + instructions[-1:]
     plain = "\n".join(" ".join(without_comment(i.text).split()) for i in instructions)

@@ -1,5 +1,5 @@
 -- Laws of numbers as bytes and of the padded message of FIPS 180-4, 3.1 and 5.1.1: how long they are, and which byte stands where.
-use Rattle.std.proofs.Common.{◌≡◌, ℕ, suc, ◌+◌, ◌-◌, ◌*◌, ◌/◌, ◌%◌, ◌^◌, ◌<◌, ◌≤◌, List, ◌∷◌, ◌++◌, length, get_or, take, drop, replicate, sym, ap, ◌∙◌, arith, length-append, length-drop, get_or-append-add, refl, w32, w64}
+use Rattle.std.proofs.Common.{◌≡◌, ℕ, suc, ◌+◌, ◌-◌, ◌*◌, ◌/◌, ◌%◌, ◌^◌, ◌<◌, ◌≤◌, List, ◌∷◌, ◌++◌, length, get_or, take, drop, replicate, sym, ap, ◌∙◌, arith, length-append, length-drop, get_or-append-add, refl, w32}
 use Rattle.std.specs.Int.{to_be_bytes}
 use lib.ListN.{length-replicate, get_or-replicate, get_or-append}
 use lib.Pow.{field, mod-mod-pow}
@@ -68,17 +68,11 @@ four_bytes v = let e : v / 1 ≡ v = omega arith in rw e refl
 pub word_byte : (v i : ℕ) → i < 4 → get_or (to_be_bytes w32 v) i 0 ≡ big_endian_byte 4 v i
 word_byte v i h = ap (λ (b : List ℕ). get_or b i 0) (four_bytes v) ∙ get_or-big_endian 4 v i h
 
-eight_bytes : (v : ℕ) → to_be_bytes w64 v ≡ big_endian 8 v
-unfolding big_endian big_endian_byte tabulate
-eight_bytes v = let e : v / 1 ≡ v = omega arith in rw e refl
-
-pub length_byte : (n j : ℕ) → j < 8 → get_or (to_be_bytes w64 (8 * n % 2 ^ 64)) j 0 ≡ get_or (big_endian 8 (8 * n)) j 0
+pub length_byte : (n j : ℕ) → j < 8 → big_endian_byte 8 (8 * (n % 2 ^ 61)) j ≡ get_or (big_endian 8 (8 * n)) j 0
 unfolding big_endian_byte
 length_byte n j h =
-    ap (λ (b : List ℕ). get_or b j 0) (eight_bytes (8 * n % 2 ^ 64)) ∙
-    get_or-big_endian 8 (8 * n % 2 ^ 64) j h ∙
-    low_byte (8 * n) (8 * (7 - j)) (omega arith) ∙
-    sym (get_or-big_endian 8 (8 * n) j h)
+    let e : 8 * (n % 2 ^ 61) ≡ 8 * n % 2 ^ 64 = omega arith in
+    ap (λ (v : ℕ). v / 2 ^ (8 * (7 - j)) % 2 ^ 8) e ∙ low_byte (8 * n) (8 * (7 - j)) (omega arith) ∙ sym (get_or-big_endian 8 (8 * n) j h)
 
 -- a part that lies in the message
 part-padded : (m : List ℕ) (a n : ℕ) → a + n ≤ length m → part (padded m) a n ≡ part m a n

@@ -62,8 +62,9 @@ impl<'a> Message<'a> {
         requires { j < 8 }
         ensures { result ≡ slice_index (big_endian 8 (8 * length (joined self.entry))) j }
     {
-        let bits = 8u64.wrapping_mul(self.len() as u64);
-        bits.to_be_bytes()[j]
+        // Shifted out, and not one of the bytes of to_be_bytes: these would be laid on the stack, at an index that tools/stack cannot bound.
+        let bits = 8 * (self.len() % 0x2000_0000_0000_0000);
+        ((bits >> (8 * (7 - j))) % 256) as u8
     }
 
     fn padded_byte(self, i: usize) -> u8
