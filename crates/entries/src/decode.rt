@@ -133,7 +133,8 @@ impl Position<'_> {
         ensures { result ≡ is_run self.entry.memory.now self.entry.index }
     {
         let start = self.index / RUN_WORDS * RUN_WORDS;
-        (0..RUN_WORDS).all(move |k| words::word(self.memory, WORD_BYTES * (start + k)) == self.value)
+        (0..RUN_WORDS).all(move |k| words::word(self.memory, WORD_BYTES * (start + k))
+            == self.value)
     }
 
     // The entry of an L2 table that the word is, which is neither a fault nor a page.

@@ -54,7 +54,10 @@ fn some_beyond(ledger: &[u8], field: Field, b: usize, m: usize, bounds: Bounds) 
     requires { InLedger ledger.now (b + m) }
     ensures { result ≡ any m (λ i. beyond bounds.least bounds.most (record_word ledger.now (field_word field) (b + i))) }
 {
-    some_below(m, move |i| bounds.exclude(record_word(ledger, field, b + i)))
+    some_below(
+        m,
+        move |i| bounds.exclude(record_word(ledger, field, b + i)),
+    )
 }
 
 // They exclude a counter that the entry grants, on some of the m blocks from p on.

@@ -61,7 +61,11 @@ pub fn pagemon_create_l1(
     ensures hashed_after { hashed.new ≡ (create_outcome l1 golden.now (lent memory.now ledger.old) block).hashed }
     ensures ledger_after { lent memory.now ledger.new ≡ (create_outcome l1 golden.now (lent memory.now ledger.old) block).after }
 {
-    give(tables::create::create(Level::L1, memory, ledger, golden, block), 0, hashed)
+    give(
+        tables::create::create(Level::L1, memory, ledger, golden, block),
+        0,
+        hashed,
+    )
 }
 
 // Create L2: a block becomes an L2 block, with the entries that its bytes hold.
@@ -76,7 +80,11 @@ pub fn pagemon_create_l2(
     ensures hashed_after { hashed.new ≡ (create_outcome l2 golden.now (lent memory.now ledger.old) block).hashed }
     ensures ledger_after { lent memory.now ledger.new ≡ (create_outcome l2 golden.now (lent memory.now ledger.old) block).after }
 {
-    give(tables::create::create(Level::L2, memory, ledger, golden, block), 0, hashed)
+    give(
+        tables::create::create(Level::L2, memory, ledger, golden, block),
+        0,
+        hashed,
+    )
 }
 
 // Free L1: the table's blocks become data.
@@ -118,7 +126,11 @@ pub fn pagemon_map_l1_kind(
         rights,
         kind,
     };
-    give(mapping::map::map(Form::Sections, memory, ledger, golden, request), 0, hashed)
+    give(
+        mapping::map::map(Form::Sections, memory, ledger, golden, request),
+        0,
+        hashed,
+    )
 }
 
 // Map L1: the same with kind 0.
@@ -164,7 +176,11 @@ pub fn pagemon_map_l2_kind(
         rights,
         kind,
     };
-    give(mapping::map::map(Form::Pages, memory, ledger, golden, request), 0, hashed)
+    give(
+        mapping::map::map(Form::Pages, memory, ledger, golden, request),
+        0,
+        hashed,
+    )
 }
 
 // Map L2: the same with kind 0.
@@ -210,7 +226,11 @@ pub fn pagemon_map_large_kind(
         rights,
         kind,
     };
-    give(mapping::map::map(Form::Larges, memory, ledger, golden, request), 0, hashed)
+    give(
+        mapping::map::map(Form::Larges, memory, ledger, golden, request),
+        0,
+        hashed,
+    )
 }
 
 // Map large: the same with kind 0.
@@ -293,7 +313,11 @@ pub fn pagemon_read(
     ensures ledger_value { lent memory.now ledger.now ≡ (guest_outcome reads (lent memory.now ledger.now) registers.old address).after }
     ensures registers_after { registers.new ≡ guest_registers reads (lent memory.now ledger.now) registers.old address }
 {
-    give(guest::access::read(memory, ledger, registers, address), 0, byte)
+    give(
+        guest::access::read(memory, ledger, registers, address),
+        0,
+        byte,
+    )
 }
 
 // The guest fetches the byte at an address, to execute it.
@@ -309,7 +333,11 @@ pub fn pagemon_fetch(
     ensures ledger_value { lent memory.now ledger.now ≡ (guest_outcome fetches (lent memory.now ledger.now) registers.old address).after }
     ensures registers_after { registers.new ≡ guest_registers fetches (lent memory.now ledger.now) registers.old address }
 {
-    give(guest::access::fetch(memory, ledger, registers, address), 0, byte)
+    give(
+        guest::access::fetch(memory, ledger, registers, address),
+        0,
+        byte,
+    )
 }
 
 // The guest writes a byte at an address.
