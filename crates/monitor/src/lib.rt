@@ -20,6 +20,7 @@ ghost use Rattle.rules.specs.Unmap.{unmap_outcome};
 ghost use Rattle.ledger.specs.Refusals.{answered};
 
 use entries::entry::Level;
+use guest::access;
 use ledger::refusals::{Refusal, answer};
 use mapping::form::Form;
 use mapping::request::{FIRST_KIND, Request};
@@ -61,11 +62,8 @@ pub fn pagemon_create_l1(
     ensures hashed_after { hashed.new ≡ (create_outcome l1 golden.now (lent memory.now ledger.old) block).hashed }
     ensures ledger_after { lent memory.now ledger.new ≡ (create_outcome l1 golden.now (lent memory.now ledger.old) block).after }
 {
-    give(
-        tables::create::create(Level::L1, memory, ledger, golden, block),
-        0,
-        hashed,
-    )
+    let outcome = tables::create::create(Level::L1, memory, ledger, golden, block);
+    give(outcome, 0, hashed)
 }
 
 // Create L2: a block becomes an L2 block, with the entries that its bytes hold.
@@ -80,11 +78,8 @@ pub fn pagemon_create_l2(
     ensures hashed_after { hashed.new ≡ (create_outcome l2 golden.now (lent memory.now ledger.old) block).hashed }
     ensures ledger_after { lent memory.now ledger.new ≡ (create_outcome l2 golden.now (lent memory.now ledger.old) block).after }
 {
-    give(
-        tables::create::create(Level::L2, memory, ledger, golden, block),
-        0,
-        hashed,
-    )
+    let outcome = tables::create::create(Level::L2, memory, ledger, golden, block);
+    give(outcome, 0, hashed)
 }
 
 // Free L1: the table's blocks become data.
@@ -126,11 +121,8 @@ pub fn pagemon_map_l1_kind(
         rights,
         kind,
     };
-    give(
-        mapping::map::map(Form::Sections, memory, ledger, golden, request),
-        0,
-        hashed,
-    )
+    let outcome = mapping::map::map(Form::Sections, memory, ledger, golden, request);
+    give(outcome, 0, hashed)
 }
 
 // Map L1: the same with kind 0.
@@ -176,11 +168,8 @@ pub fn pagemon_map_l2_kind(
         rights,
         kind,
     };
-    give(
-        mapping::map::map(Form::Pages, memory, ledger, golden, request),
-        0,
-        hashed,
-    )
+    let outcome = mapping::map::map(Form::Pages, memory, ledger, golden, request);
+    give(outcome, 0, hashed)
 }
 
 // Map L2: the same with kind 0.
@@ -226,11 +215,8 @@ pub fn pagemon_map_large_kind(
         rights,
         kind,
     };
-    give(
-        mapping::map::map(Form::Larges, memory, ledger, golden, request),
-        0,
-        hashed,
-    )
+    let outcome = mapping::map::map(Form::Larges, memory, ledger, golden, request);
+    give(outcome, 0, hashed)
 }
 
 // Map large: the same with kind 0.
@@ -313,11 +299,7 @@ pub fn pagemon_read(
     ensures ledger_value { lent memory.now ledger.now ≡ (guest_outcome reads (lent memory.now ledger.now) registers.old address).after }
     ensures registers_after { registers.new ≡ guest_registers reads (lent memory.now ledger.now) registers.old address }
 {
-    give(
-        guest::access::read(memory, ledger, registers, address),
-        0,
-        byte,
-    )
+    give(access::read(memory, ledger, registers, address), 0, byte)
 }
 
 // The guest fetches the byte at an address, to execute it.
@@ -333,11 +315,7 @@ pub fn pagemon_fetch(
     ensures ledger_value { lent memory.now ledger.now ≡ (guest_outcome fetches (lent memory.now ledger.now) registers.old address).after }
     ensures registers_after { registers.new ≡ guest_registers fetches (lent memory.now ledger.now) registers.old address }
 {
-    give(
-        guest::access::fetch(memory, ledger, registers, address),
-        0,
-        byte,
-    )
+    give(access::fetch(memory, ledger, registers, address), 0, byte)
 }
 
 // The guest writes a byte at an address.
@@ -352,7 +330,7 @@ pub fn pagemon_write(
     ensures ledger_after { lent memory.new ledger.new ≡ (guest_outcome (writes byte) (lent memory.old ledger.old) registers.old address).after }
     ensures registers_after { registers.new ≡ guest_registers (writes byte) (lent memory.old ledger.old) registers.old address }
 {
-    answer(guest::access::write(memory, ledger, registers, address, byte))
+    answer(access::write(memory, ledger, registers, address, byte))
 }
 
 // Acknowledge: the pending byte of the fault registers is given and cleared. It is lent no store, so that its promise is the same for every one.
