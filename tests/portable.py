@@ -105,8 +105,22 @@ start:
 }
 """
 
+# An address of memory that holds an address, kept in memory and followed.
+KEPT = """  %r0 = alloca [16 x i8], align 8
+  store ptr %a0, ptr %r0, align 8
+  %r1 = alloca [16 x i8], align 8
+  store ptr %r0, ptr %r1, align 8
+  %r2 = load ptr, ptr %r1, align 8
+  %r3 = load ptr, ptr %r2, align 8"""
+
+# A module of which one function asks to be compiled into its callers.
+HINTED = (HEAD + SLICE.replace("%a1) #0 {", "%a1) #1 {", 1) + TAIL.replace(") #2", ") #5").replace(") #1", ") #4").replace("#2 =", "#5 =").replace(
+    "#1 =", "#4 =")).replace("attributes #4", f"attributes #1 = {{ inlinehint nounwind{portable.TARGET_ATTRIBUTES} }}\nattributes #4")
+
 SAME = {
     "a slice that is made, copied and read": HEAD + SLICE + TAIL,
+    "a function that is named with a type": HEAD + SLICE.replace("m::first", "m::first<Region<'_>>") + TAIL,
+    "a function that asks to be compiled into its callers": HINTED,
     "an array that is cleared and indexed": exported("""  %r0 = alloca [64 x i8], align 4
   call void @llvm.memset.p0.i64(ptr %r0, i8 0, i64 64, i1 false)
   %r1 = mul nuw i64 %a1, 4
@@ -142,6 +156,12 @@ SAME = {
   %r1 = extractvalue { i32, i32 } %r0, 0
   ret void""").removeprefix(HEAD),
     "a number and a byte that a function returns": HEAD + TWO_NUMBERS.replace("{ i32, i32 }", "{ i32, i8 }") + SLICE + TAIL,
+    "two bytes that a function returns": HEAD + TWO_NUMBERS.replace("{ i32, i32 }", "{ i8, i8 }") + SLICE + TAIL,
+    "a byte and a number that a function returns": HEAD + TWO_NUMBERS.replace("{ i32, i32 }", "{ i8, i32 }") + SLICE + TAIL,
+    "a byte and a number of 64 bits that a function returns": HEAD + TWO_NUMBERS.replace("{ i32, i32 }", "{ i8, i64 }").replace("[8 x", "[16 x") + SLICE + TAIL,
+    "two numbers of 64 bits that a function returns": HEAD + TWO_NUMBERS.replace("{ i32, i32 }", "{ i64, i64 }").replace("[8 x", "[16 x") + SLICE + TAIL,
+    "two numbers that may both have no value": HEAD + TWO_NUMBERS.replace("noundef ", "") + SLICE + TAIL,
+    "an address of an address that a function keeps": internal(KEPT),
     "numbers of several sizes at one place": exported("""  %r0 = alloca i64, align 8
   store i8 1, ptr %r0, align 1
   %r1 = load i32, ptr %r0, align 4
@@ -192,6 +212,14 @@ REFUSED = {
   ret void""").removeprefix(HEAD), "an address at a place that is not constant"),
     "constant bytes that are not there": (exported("  %r0 = alloca ptr, align 8\n  store ptr @static.7, ptr %r0, align 8\n  ret void"), "@static.7 is no place"),
     "two numbers of other sizes": (HEAD + TWO_NUMBERS.replace("{ i32, i32 }", "{ i32, i64 }") + SLICE + TAIL, FORM),
+    "a number of 64 bits and a byte that a function returns": (HEAD + TWO_NUMBERS.replace("{ i32, i32 }", "{ i64, i8 }") + SLICE + TAIL, FORM),
+    "an address that is read as a byte and a number of 64 bits": (internal("""  %r0 = alloca [16 x i8], align 8
+  %r1 = getelementptr i8, ptr %r0, i64 8
+  store ptr %a0, ptr %r1, align 8
+  %r2 = load { i8, i64 }, ptr %r0, align 8"""), NUMBER),
+    "an address of an address that an export keeps": (exported(KEPT + "\n  ret void"), "an address at a place that is not constant"),
+    "a number where an address of an address leads": (internal(KEPT.replace("load ptr, ptr %r2", "load i64, ptr %r2")), NUMBER),
+    "a result of an export that may have no value": (exported("  ret i32 0", result="i32"), "the calling conventions may differ"),
     "an address and a number that a function returns": (HEAD + TWO_NUMBERS.replace("{ i32, i32 }", "{ ptr, i32 }") + SLICE + TAIL, FORM),
     "two numbers that an export returns": (
         exported("  %r0 = load { i32, i32 }, ptr %a0, align 4\n  ret { i32, i32 } %r0", result="noundef { i32, i32 }"),

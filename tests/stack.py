@@ -51,6 +51,7 @@ BOUNDS = {
     "a place below the stack pointer": ("*f { mov [rsp - 24], rdi; ret }", {"f": 32}),
     "a jump table with an instruction aside": (table(more="xor esi, esi;"), {"f": 64}),
     "a jump table with two loads aside": (table(more="mov r9d, [rsp + 4]; mov r10, [rsp + rcx * 8];"), {"f": 64}),
+    "a jump table with stores in the frame aside": (table(more="mov [rsp], rsi; mov dword ptr [rsp + 4], edi;"), {"f": 64}),
     "one push on each of two paths that meet": ("*f { test edi, edi; je 1f; push rbx; jmp 2f; 1: push rbp; 2: pop rax; ret }", {"f": 16}),
     "a loop": ("*f { push rbx; 1: dec edi; jne 1b; pop rbx; ret }", {"f": 16}),
     "an array in the frame by an index, from a start that is folded": (
@@ -91,6 +92,8 @@ REFUSALS = {
     "a jump table with a load of what it jumps by": (table(more="mov esi, edx; mov rax, [rdi];"), r"jmp rax: an indirect jump that is not"),
     "a jump table with a half load of what it jumps by": (table(more="mov eax, [rdi];"), r"jmp rax: an indirect jump that is not"),
     "a jump table with a store inside": (table(more="mov [rdi], rsi;"), r"jmp rax: an indirect jump that is not"),
+    "a jump table with a store in the frame by an index": (table(more="mov [rsp + rdi * 8], rsi;"), r"jmp rax: an indirect jump that is not"),
+    "a jump table with a store of a number in the frame": (table(more="mov qword ptr [rsp], 7;"), r"jmp rax: an indirect jump that is not"),
     "a jump table with three instructions inside": (table(more="xor esi, esi; xor esi, esi; xor esi, esi;"), r"jmp rax: an indirect jump that is not"),
     "a jump table that can be written": (table(section='.data.f,"aw"'), r"jmp rax: a jump table that can be written"),
     "a jump table that leads outside": (table(entry=".Lg - t"), r"jmp rax: an entry of the jump table lies outside the function$"),
