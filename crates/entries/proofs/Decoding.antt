@@ -266,14 +266,31 @@ module _ (w : ℕ) (taken : is_unaccepted (l1_entry w) ≡ false) where
   unfolding l1_entry is_link_form
   accepted_section h k = accepted_cond (is_section_form w) _ (rw (ne_eqb (bits w 0 2) 0b00 h, ne_eqb (bits w 0 2) 0b01 k) at taken)
 
-module _ (j w : ℕ) (taken : is_unaccepted (accepted_at l2 j w) ≡ false) where
+-- an accepted word has the form that these bits tell, and one of a large page stands in a run
+module _ (mem : List ℕ) (j w : ℕ) (is : w ≡ word mem (4 * j)) (taken : is_unaccepted (entry_at l2 mem j) ≡ false) where
+  l2_taken : is_unaccepted (l2_entry (is_run mem j) (j % run_words) w) ≡ false
+  unfolding entry_at
+  l2_taken = rw is taken
+
   pub accepted_page : bits w 1 1 ≡ 1 → is_page_form w ≡ true
   unfolding by_tests
-  accepted_page h = accepted_cond (is_page_form w) _ (rw (by_page_tests w true (j % run_words) h) at taken)
+  accepted_page h = accepted_cond (is_page_form w) _ (rw (by_page_tests w (is_run mem j) (j % run_words) h) at l2_taken)
 
-  pub accepted_large : bits w 0 2 ≢ 0b00 → bits w 1 1 ≢ 1 → is_large_form w ≡ true
+  pub accepted_large : bits w 0 2 ≢ 0b00 → bits w 1 1 ≢ 1 → (is_large_form w ≡ true) × (is_run mem j ≡ true)
   unfolding by_tests
   accepted_large h k =
+      let low : bits w 0 2 ≡ 0b01 = omega arith in
+      and_true _ _ (accepted_cond (is_large_form w && is_run mem j) _ (rw (by_large_tests w (is_run mem j) (j % run_words) low) at l2_taken))
+
+-- the same of a word alone, which is taken for one that stands in a run
+module _ (j w : ℕ) (taken : is_unaccepted (accepted_at l2 j w) ≡ false) where
+  pub page_alone : bits w 1 1 ≡ 1 → is_page_form w ≡ true
+  unfolding by_tests
+  page_alone h = accepted_cond (is_page_form w) _ (rw (by_page_tests w true (j % run_words) h) at taken)
+
+  pub large_alone : bits w 0 2 ≢ 0b00 → bits w 1 1 ≢ 1 → is_large_form w ≡ true
+  unfolding by_tests
+  large_alone h k =
       let low : bits w 0 2 ≡ 0b01 = omega arith in
       and_true_left _ _ (accepted_cond (is_large_form w && true) _ (rw (by_large_tests w true (j % run_words) low) at taken))
 
@@ -282,7 +299,7 @@ module _ (v : Level) (j w : ℕ) where
   unfolding l1_entry l2_entry
   accepted_fault h = elim v as (λ v. fault ≡ accepted_at v j w) [ l1 ↦ rw h | l2 ↦ rw h ]
 
--- an accepted word with the form of a large page stands in a run
+-- an accepted word is what it is alone
 pub accepted_is : (v : Level) (mem : List ℕ) (j w : ℕ) → w ≡ word mem (4 * j) → is_unaccepted (entry_at v mem j) ≡ false → accepted_at v j w ≡ entry_at v mem j
 unfolding entry_at l2_entry is_unaccepted
 accepted_is l1 mem j w is taken = ap l1_entry is
@@ -300,7 +317,7 @@ pub accepted_page_bit : (v : Level) (mem : List ℕ) (j w : ℕ) → w ≡ word 
     → (is_page_form w ≡ true) × (page (bits w 12 20) (rights_of (page_ap w) (page_xn w)) ≡ entry_at v mem j)
 accepted_page_bit l1 mem j w is taken h = absurd (false≢true h)
 accepted_page_bit l2 mem j w is taken h =
-    let form = accepted_page j w (ap is_unaccepted (accepted_is l2 mem j w is taken) ∙ taken) (eqb-true _ _ h) in
+    let form = accepted_page mem j w is taken (eqb-true _ _ h) in
     (form, entry_at_page mem j w is form)
 
 -- no page, large or not, stands in an L1 table, and no link and no section in an L2 table

@@ -253,7 +253,7 @@ fn accepted_l1_entry(w: u32) -> Entry
 }
 
 // Word w of an L2 table that is accepted at index j, and no fault: bit 1 tells a page from a large page.
-#[tactic(auto, using(crate::proofs::Decoding::accepted_page, crate::proofs::Decoding::accepted_large, crate::proofs::Decoding::l2_entry_page, crate::proofs::Decoding::l2_entry_large))]
+#[tactic(auto, using(crate::proofs::Decoding::page_alone, crate::proofs::Decoding::large_alone, crate::proofs::Decoding::l2_entry_page, crate::proofs::Decoding::l2_entry_large))]
 fn accepted_l2_entry(j: usize, w: u32) -> Entry
     requires { (bits w 0 2 ≢ 0b00) × (is_unaccepted (l2_entry true (j % run_words) w) ≡ false) }
     ensures { meaning result ≡ l2_entry true (j % run_words) w }

@@ -14,7 +14,7 @@ ghost use Rattle.ledger.specs.Regions.{store_of};
 ghost use Rattle.guest.specs.Meaning.{abort_of, access_of, count_of, stopped, walk_in};
 ghost use Rattle.guest.specs.Needs.{Loads};
 
-use crate::registers::{Abort, Fault, REGISTERS_BYTES, put_fault, status_word};
+use crate::registers::{Abort, Fault, is_misfit_registers, put_fault, status_word};
 use crate::walk::{Blocks, Stop};
 use entries::rights::{Right, allows};
 use ledger::layout::BLOCK_BYTES;
@@ -128,7 +128,7 @@ fn judge(
     ensures in_memory { IfOk result (λ j. j < length memory.now) }
     ensures recorded { IfOk result (λ j. InLedger ledger.now (j / block_bytes + 1)) }
 {
-    if registers.len() != REGISTERS_BYTES {
+    if is_misfit_registers(registers) {
         return Err(Refusal::Misfit);
     }
     let region = Region::new(memory, ledger)?;

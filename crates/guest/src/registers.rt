@@ -1,7 +1,7 @@
 // The fault registers (RULES: registers, acknowledge).
 ghost use Rattle.std.specs.Int.{from_bool};
 ghost use Rattle.std.specs.Prelude.{◌≡◌, length};
-ghost use Rattle.rules.specs.Registers.{acknowledge_outcome, acknowledge_registers, address_place, fault_code, put_fault, registers_bytes, status_place, status_word};
+ghost use Rattle.rules.specs.Registers.{acknowledge_outcome, acknowledge_registers, address_place, fault_code, misfit_registers, put_fault, registers_bytes, status_place, status_word};
 ghost use Rattle.rules.specs.Store.{Store};
 ghost use Rattle.ledger.specs.Refusals.{answered, given};
 ghost use Rattle.guest.specs.Meaning.{abort_of, fault_of};
@@ -83,14 +83,20 @@ pub fn put_fault(registers: &mut [u8], abort: Abort, status: u32, address: u32)
     registers[PENDING] = 1;
 }
 
+// Their length is not that of the registers (refusal 1).
+pub fn is_misfit_registers(registers: &[u8]) -> bool
+    ensures { result ≡ misfit_registers registers.now }
+{
+    registers.len() != REGISTERS_BYTES
+}
+
 // Gives the pending byte as it was, and makes it 0 (acknowledge byte, acknowledge leaves).
-#[tactic(auto, using(words::proofs::Bounded::differ, words::proofs::Bounded::same), unfolding(rules::specs::Registers::acknowledge_outcome, rules::specs::Registers::acknowledge_registers, rules::specs::Outcomes::settle, rules::specs::Refusals::answer_of))]
 pub fn acknowledge(registers: &mut [u8]) -> Result<u8, Refusal>
     ensures value { (s : Store) → answered result ≡ (acknowledge_outcome s registers.old).answer }
     ensures pending { (s : Store) → given result ≡ (acknowledge_outcome s registers.old).byte }
     ensures registers_after { registers.new ≡ acknowledge_registers registers.old }
 {
-    if registers.len() != REGISTERS_BYTES {
+    if is_misfit_registers(registers) {
         return Err(Refusal::Misfit);
     }
     let pending = registers[PENDING];

@@ -12,7 +12,7 @@ ghost use Rattle.ledger.specs.Needs.{EntryRecorded, GrantsInside, GrantsRecorded
 ghost use Rattle.ledger.specs.Regions.{store_of};
 
 use crate::counters::{Change, Counter, grants};
-use crate::layout::{COUNTER_LIMIT, Field, record_of, record_word};
+use crate::layout::{COUNTER_LIMIT, Field, record_of};
 use crate::region::Region;
 use entries::entry::Entry;
 use words::some_below;
@@ -54,10 +54,7 @@ fn some_beyond(ledger: &[u8], field: Field, b: usize, m: usize, bounds: Bounds) 
     requires { InLedger ledger.now (b + m) }
     ensures { result ≡ any m (λ i. beyond bounds.least bounds.most (record_word ledger.now (field_word field) (b + i))) }
 {
-    some_below(
-        m,
-        move |i| bounds.exclude(record_word(ledger, field, b + i)),
-    )
+    some_below(m, move |i| bounds.exclude(field.get(ledger, b + i)))
 }
 
 // They exclude a counter that the entry grants, on some of the m blocks from p on.

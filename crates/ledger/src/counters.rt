@@ -11,7 +11,7 @@ ghost use Rattle.ledger.specs.Layout.{field_word};
 ghost use Rattle.ledger.specs.Meaning.{change_of, counter_of};
 ghost use Rattle.ledger.specs.Needs.{Changeable, Countable, Fits, GrantsInside, GrantsRecorded, InLedger};
 
-use crate::layout::{Field, put_record_word, record_of, record_word};
+use crate::layout::{Field, record_of};
 use entries::entry::Entry;
 use entries::rights::{Right, allows};
 
@@ -81,8 +81,8 @@ fn change_word(change: Change, ledger: &mut [u8], field: Field, b: usize)
     requires { InLedger ledger.old (b + 1) × Changeable (change_of change) (record_word ledger.old (field_word field) b) }
     ensures { ledger.new ≡ put_record_word ledger.old (field_word field) b (end_value (change_of change) (record_word ledger.old (field_word field) b) 1) }
 {
-    let old = record_word(ledger, field, b);
-    put_record_word(ledger, field, b, end_value(change, old));
+    let old = field.get(ledger, b);
+    field.put(ledger, b, end_value(change, old));
 }
 
 // The same for the m records from block b on.

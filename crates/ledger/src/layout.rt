@@ -53,10 +53,25 @@ pub enum Field {
 
 impl Field {
     // The field's word in a record.
-    fn place(self) -> usize
+    pub fn place(self) -> usize
         ensures { Small (field_word self) record_words result }
     {
         self as usize
+    }
+
+    // The field of block b's record, b counted from the region's first.
+    pub fn get(self, ledger: &[u8], b: usize) -> u32
+        requires { ledger_head_bytes + ledger_record_bytes * b + 4 * field_word self + 4 ≤ length ledger.now }
+        ensures { result ≡ record_word ledger.now (field_word self) b }
+    {
+        record_word(ledger, self.place(), b)
+    }
+
+    pub fn put(self, ledger: &mut [u8], b: usize, v: u32)
+        requires { ledger_head_bytes + ledger_record_bytes * b + 4 * field_word self + 4 ≤ length ledger.old }
+        ensures { ledger.new ≡ put_record_word ledger.old (field_word self) b v }
+    {
+        put_record_word(ledger, self.place(), b, v);
     }
 }
 
@@ -119,24 +134,24 @@ pub fn record_of(ledger: &[u8], block: u32) -> usize
     (block - base(ledger)) as usize
 }
 
-// A field of the record of block b, b counted from the region's first.
-pub fn record_word(ledger: &[u8], field: Field, b: usize) -> u32
-    requires { ledger_head_bytes + ledger_record_bytes * b + 4 * field_word field + 4 ≤ length ledger.now }
-    ensures { result ≡ record_word ledger.now (field_word field) b }
+// Word k of the record of block b, b counted from the region's first.
+pub fn record_word(ledger: &[u8], k: usize, b: usize) -> u32
+    requires { ledger_head_bytes + ledger_record_bytes * b + 4 * k + 4 ≤ length ledger.now }
+    ensures { result ≡ record_word ledger.now k b }
 {
     words::word(
         ledger,
-        LEDGER_HEAD_BYTES + LEDGER_RECORD_BYTES * b + WORD_BYTES * field.place(),
+        LEDGER_HEAD_BYTES + LEDGER_RECORD_BYTES * b + WORD_BYTES * k,
     )
 }
 
-pub fn put_record_word(ledger: &mut [u8], field: Field, b: usize, v: u32)
-    requires { ledger_head_bytes + ledger_record_bytes * b + 4 * field_word field + 4 ≤ length ledger.old }
-    ensures { ledger.new ≡ put_record_word ledger.old (field_word field) b v }
+pub fn put_record_word(ledger: &mut [u8], k: usize, b: usize, v: u32)
+    requires { ledger_head_bytes + ledger_record_bytes * b + 4 * k + 4 ≤ length ledger.old }
+    ensures { ledger.new ≡ put_record_word ledger.old k b v }
 {
     words::put_word(
         ledger,
-        LEDGER_HEAD_BYTES + LEDGER_RECORD_BYTES * b + WORD_BYTES * field.place(),
+        LEDGER_HEAD_BYTES + LEDGER_RECORD_BYTES * b + WORD_BYTES * k,
         v,
     );
 }

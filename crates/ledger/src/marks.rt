@@ -11,7 +11,7 @@ ghost use Rattle.ledger.specs.Needs.{Fits, GrantsInside, InLedger};
 ghost use Rattle.ledger.specs.Regions.{store_of};
 
 use crate::counters::{Counter, grants};
-use crate::layout::{Field, MARKED, put_record_word, record_of, record_word};
+use crate::layout::{Field, MARKED, record_of};
 use crate::region::Region;
 use entries::entry::Entry;
 
@@ -21,21 +21,21 @@ pub fn is_marked(ledger: &[u8], b: usize) -> bool
     requires { InLedger ledger.now (b + 1) }
     ensures { result ≡ eqb (record_word ledger.now mark_word b) mark_value }
 {
-    record_word(ledger, Field::Mark, b) == MARKED
+    Field::Mark.get(ledger, b) == MARKED
 }
 
 pub fn mark(ledger: &mut [u8], b: usize)
     requires { InLedger ledger.old (b + 1) }
     ensures { ledger.new ≡ put_record_word ledger.old mark_word b mark_value }
 {
-    put_record_word(ledger, Field::Mark, b, MARKED);
+    Field::Mark.put(ledger, b, MARKED);
 }
 
 pub fn clear_mark(ledger: &mut [u8], b: usize)
     requires { InLedger ledger.old (b + 1) }
     ensures { ledger.new ≡ clear_mark ledger.old b }
 {
-    put_record_word(ledger, Field::Mark, b, NO_MARK);
+    Field::Mark.put(ledger, b, NO_MARK);
 }
 
 // Clears the marks of the m blocks from b on.

@@ -7,7 +7,7 @@ ghost use Rattle.ledger.specs.Layout.{field_word};
 ghost use Rattle.ledger.specs.Needs.{BlocksInside, InLedger};
 ghost use Rattle.ledger.specs.Regions.{store_of};
 
-use crate::layout::{BLOCK_BYTES, Field, MARKED, record_word};
+use crate::layout::{BLOCK_BYTES, Field, MARKED};
 use crate::marks::is_marked;
 use crate::region::Region;
 use signature::golden::is_signed_at;
@@ -19,9 +19,9 @@ pub fn some_differs(ledger: &[u8], field: Field, b: usize, m: usize, v: u32) -> 
     ensures { result ≡ any m (λ i. neqb (record_word ledger.now (field_word field) (b + i)) v) }
 {
     if m == 1 {
-        return record_word(ledger, field, b) != v;
+        return field.get(ledger, b) != v;
     }
-    some_below(m, move |i| record_word(ledger, field, b + i) != v)
+    some_below(m, move |i| field.get(ledger, b + i) != v)
 }
 
 // The field is above 0 in some of the m records from block b on.

@@ -61,23 +61,17 @@ impl Region<'_> {
     }
 
     // Some block of the table has another type than t.
-    pub fn is_other_type(&self, level: Level, block: u32, t: BlockType) -> bool
+    pub fn is_other_type(&self, level: Level, block: u32, t: u32) -> bool
         requires { TableInside (level_of level) self.now.memory.now self.now.ledger.now block }
-        ensures { result ≡ other_type (level_of level) (store_of self.now) block (code_of t) }
+        ensures { result ≡ other_type (level_of level) (store_of self.now) block t }
     {
         let b = self.record_of(block);
-        some_differs(
-            self.ledger,
-            Field::Type,
-            b,
-            table_blocks(level) as usize,
-            t.code(),
-        )
+        some_differs(self.ledger, Field::Type, b, table_blocks(level) as usize, t)
     }
 
     // Refusals 2, 3 and 5: where the table lies, and whether its blocks have type t.
-    pub fn check_table(&self, level: Level, block: u32, t: BlockType) -> Result<(), Refusal>
-        ensures { answered result ≡ answer_of (table_refusals (level_of level) (store_of self.now) block (code_of t)) }
+    pub fn check_table(&self, level: Level, block: u32, t: u32) -> Result<(), Refusal>
+        ensures { answered result ≡ answer_of (table_refusals (level_of level) (store_of self.now) block t) }
     {
         self.check_place(level, block)?;
         if self.is_other_type(level, block, t) {

@@ -31,7 +31,7 @@ use Rattle.mapping.proofs.Slots.{mapping_slot}
 use Rattle.mapping.proofs.Windows.{mapping_spreads, mapping_words_alike}
 
 -- 10 does not apply, so the target is in the region
-unfit_inside : (s : Store) (p i t m r : ℕ) → unfit_target s p i t m r ≡ false → outside (base s) (blocks s) t m ≡ false
+pub unfit_inside : (s : Store) (p i t m r : ℕ) → unfit_target s p i t m r ≡ false → outside (base s) (blocks s) t m ≡ false
 unfolding unfit_target
 unfit_inside s p i t m r h =
     let out = outside (base s) (blocks s) t m in

@@ -80,9 +80,9 @@ impl Form {
         ensures { result ≡ tables.takes (form_of self) (meaning e) }
     {
         match self {
-            Form::Sections => matches!(e, Entry::Fault | Entry::Section(_) | Entry::Link(_)),
-            Form::Pages => matches!(e, Entry::Fault | Entry::Page(_)),
-            Form::Larges => matches!(e, Entry::Large(_)),
+            Form::Sections => e.is_fault() || e.is_section() || e.is_link(),
+            Form::Pages => e.is_fault() || e.is_page(),
+            Form::Larges => e.is_large(),
         }
     }
 }

@@ -12,7 +12,7 @@ use crate::slot::{Spread, TableIndex, Window, is_occupied, write_entries};
 use entries::encode::link_word;
 use entries::entry::{BLOCK_TABLES, Entry, Level};
 use ledger::counters::Change;
-use ledger::layout::{BlockType, Field, record_word};
+use ledger::layout::{BlockType, Field};
 use ledger::refusals::Refusal;
 use ledger::region::Region;
 use ledger::table::table_entries;
@@ -31,7 +31,7 @@ fn check_link_target(region: &Region<'_>, target: u32, table: u32) -> Result<(),
         return Err(Refusal::UnfitTarget);
     }
     let b = region.record_of(target);
-    if record_word(region.ledger, Field::Type, b) != BlockType::L2.code() {
+    if Field::Type.get(region.ledger, b) != BlockType::L2.code() {
         return Err(Refusal::UnfitTarget);
     }
     let e = Entry::Link(BLOCK_TABLES * target + table);

@@ -81,7 +81,7 @@ fn check_map(
     if are_unlawful(request.rights) {
         return Err(Refusal::UnlawfulRights);
     }
-    check_target(region, form, golden, request, at.holder(), e)
+    check_target(region, form, golden, request, e)
 }
 
 // The words from the index on, the counts of the mapping, and the marks of the blocks to be executed (map leaves); and how many of these were hashed

@@ -19,7 +19,7 @@ ghost use Rattle.mapping.specs.Pieces.{holder_refusals};
 use entries::decode::{entry_at, is_fault_at};
 use entries::entry::{Entry, Level};
 use ledger::counters::{Change, change_blocks};
-use ledger::layout::{BLOCK_WORDS, Field, base, record_word};
+use ledger::layout::{BLOCK_WORDS, Field, base};
 use ledger::marks::clear_mark;
 use ledger::refusals::Refusal;
 use ledger::region::Region;
@@ -64,12 +64,12 @@ impl TableIndex<'_> {
     pub fn check_holder(&self) -> Result<(), Refusal>
         ensures { answered result ≡ answer_of (holder_refusals (level_of self.now.level) (store_of self.now.region) self.now.block self.now.index) }
     {
-        let t = table_type(self.level);
+        let t = table_type(self.level).code();
         if self.region.is_other_type(self.level, self.block, t) {
             return Err(Refusal::WrongType);
         }
         let b = self.region.record_of(self.holder());
-        if 0 < record_word(self.region.ledger, Field::Executable, b) {
+        if 0 < Field::Executable.get(self.region.ledger, b) {
             return Err(Refusal::ExecutableHolder);
         }
         Ok(())

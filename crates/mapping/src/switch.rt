@@ -14,7 +14,7 @@ use ledger::region::Region;
 fn check_switch(region: &Region<'_>, block: u32) -> Result<(), Refusal>
     ensures { answered result ≡ answer_of (switch_refusals (store_of region.now) block) }
 {
-    region.check_table(Level::L1, block, BlockType::L1)
+    region.check_table(Level::L1, block, BlockType::L1.code())
 }
 
 pub fn switch(memory: &[u8], ledger: &mut [u8], block: u32) -> Result<(), Refusal>

@@ -1,5 +1,5 @@
 // What map tests of its target: the blocks that are to be read, written or executed (map 10 to 12, refusal 13).
-ghost use Rattle.std.specs.Prelude.{◌&&◌, false, ◌≡◌, ◌-◌};
+ghost use Rattle.std.specs.Prelude.{◌&&◌, false, ◌≡◌, ◌-◌, ◌^◌, ◌<◌};
 ghost use Rattle.words.specs.Bounded.{above, among, neqb};
 ghost use Rattle.entries.specs.Meaning.{meaning};
 ghost use Rattle.entries.specs.Rights.{allows, execute, write};
@@ -21,7 +21,7 @@ use crate::request::Request;
 use entries::entry::Entry;
 use entries::rights::{Right, allows};
 use ledger::counters::Change;
-use ledger::layout::{BlockType, Field};
+use ledger::layout::{BLOCK_WORDS, BlockType, Field};
 use ledger::refusals::Refusal;
 use ledger::region::Region;
 use ledger::scan::{some_above_zero, some_differs};
@@ -100,16 +100,15 @@ impl Target<'_> {
     }
 }
 
-// Refusals 10 to 13 of the target, with the block that holds the new entry, and this entry.
+// Refusals 10 to 13 of the target, with the new entry.
 pub fn check_target(
     region: &Region<'_>,
     form: Form,
     golden: &[u8],
     request: Request,
-    holder: u32,
     e: Entry,
 ) -> Result<(), Refusal>
-    requires holder_value { holder ≡ general.holder request.block request.index }
+    requires holder_fits { general.holder request.block request.index < 2 ^ 32 }
     requires e_value { meaning e ≡ mapping (form_of form) request.target request.rights 0 }
     ensures { answered result ≡ answer_of (map_target_refusals (form_of form) golden.now (store_of region.now) request.block request.index request.target request.rights) }
 {
@@ -126,7 +125,7 @@ pub fn check_target(
     if target.writes_table() {
         return Err(Refusal::UnfitTarget);
     }
-    if target.executes(holder) {
+    if target.executes(request.block + request.index / BLOCK_WORDS) {
         return Err(Refusal::UnfitTarget);
     }
     if target.is_clashing() {

@@ -215,7 +215,7 @@ pub runs_out : {left left' held held' : Option (List ℕ)} {s : Store} {rest : L
 runs_out x h = printed (record { input = x.input; text = x.text; reached = x.reached; taken = x.taken; all = tt; written = x.written }) (refl, h)
 
 -- what was read and written is a reason for what is left
-concluded : {left left' held held' : Option (List ℕ)} {s : Store} {number : ℕ} {state : State} → Printed left left' held held' s number state → Concluded s number state
+pub concluded : {left left' held held' : Option (List ℕ)} {s : Store} {number : ℕ} {state : State} → Printed left left' held held' s number state → Concluded s number state
 concluded p = record { rest = p.rest; over = p.over; underway = record { input = p.input; text = p.text; reached = p.reached }; reason = p.reason }
 
 -- where the program ends, with what it left in memory and ledger when these are back

@@ -21,6 +21,7 @@ pub fn is_misfit_image(golden: &[u8]) -> bool
 fn is_listed(digest: &[u8; DIGEST_BYTES], golden: &[u8]) -> bool
     ensures { result ≡ listed digest.now golden.now }
 {
+    let mut found = false;
     // Index loops: calls that give chunks, or compare slices, return and store addresses, which tools/portable.py refuses.
     'search: for k in 0..golden.len() / DIGEST_BYTES {
         for j in 0..DIGEST_BYTES {
@@ -28,9 +29,10 @@ fn is_listed(digest: &[u8; DIGEST_BYTES], golden: &[u8]) -> bool
                 continue 'search;
             }
         }
-        return true;
+        found = true;
+        break 'search;
     }
-    false
+    found
 }
 
 // The digest of block p. Its number stands apart from the contents, which stay where they are.

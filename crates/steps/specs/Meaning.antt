@@ -1,6 +1,6 @@
 -- What the values of the enums in the code mean: a step, and what a record holds (RULES: forms, lists, runner).
 use Rattle.std.specs.Prelude as code
-use Rattle.std.specs.Prelude.{None, Some}
+use Rattle.std.specs.Prelude.{None, Some, ℕ}
 use Rattle.std.proofs.Math.Option.{Option, none, some}
 use Rattle.entries.specs.Entries.{l1, l2}
 use Rattle.rules.specs.Tables.{sections, pages, larges}
@@ -10,6 +10,7 @@ use Rattle.rules.specs.Registers.{clear_registers}
 use Rattle.rules.specs.Guest.{reads, writes, fetches}
 use Rattle.rules.specs.Steps as steps
 use Rattle.rules.specs.Steps.{begins, creates, frees, maps, links, unmaps, switches, accesses}
+use Rattle.steps.specs.declared.step.Reply as reply
 use Rattle.steps.specs.declared.step.Step as step
 use Rattle.steps.specs.declared.step.Step.TheVariants.{Begin, CreateL1, CreateL2, FreeL1, FreeL2, MapL1, MapL2, Link, UnmapL1, UnmapL2, Switch, Read, Write, Fetch, MapLarge, UnmapLarge}
 
@@ -36,3 +37,13 @@ meaning (UnmapLarge block index) = unmaps larges block index
 abbrev pub held : code.Option step.Step → Option steps.Step
 held (Some s) = some (meaning s)
 held None = none
+
+-- runner 2: the answer of a record; 0 where it holds no step
+abbrev pub answer_in : code.Option reply.Reply → ℕ
+answer_in (Some r) = r.answer
+answer_in None = 0
+
+-- runner 2: the same of the byte
+abbrev pub byte_in : code.Option reply.Reply → ℕ
+byte_in (Some r) = r.byte
+byte_in None = 0

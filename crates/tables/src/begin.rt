@@ -8,9 +8,7 @@ ghost use Rattle.ledger.specs.Needs.{InLedger};
 ghost use Rattle.ledger.specs.Refusals.{answered};
 
 use ledger::kinds::{put_kinds, some_unlawful};
-use ledger::layout::{
-    BlockType, Field, KINDS_BYTES, NO_TABLE, put_active, put_base, put_record_word,
-};
+use ledger::layout::{BlockType, Field, KINDS_BYTES, NO_TABLE, put_active, put_base};
 use ledger::marks::clear_mark;
 use ledger::refusals::Refusal;
 use ledger::region::{blocks, is_misfit};
@@ -20,10 +18,10 @@ fn clear_record(ledger: &mut [u8], b: usize)
     requires { InLedger ledger.old (b + 1) }
     ensures { ledger.new ≡ clear_mark (put_counters (put_record_word ledger.old type_word b type_d) b (λ c. 0)) b }
 {
-    put_record_word(ledger, Field::Type, b, BlockType::Data.code());
-    put_record_word(ledger, Field::Writable, b, 0);
-    put_record_word(ledger, Field::Executable, b, 0);
-    put_record_word(ledger, Field::Linked, b, 0);
+    Field::Type.put(ledger, b, BlockType::Data.code());
+    Field::Writable.put(ledger, b, 0);
+    Field::Executable.put(ledger, b, 0);
+    Field::Linked.put(ledger, b, 0);
     clear_mark(ledger, b);
 }
 

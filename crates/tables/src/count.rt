@@ -211,7 +211,7 @@ pub fn change_table(
         ledger,
         b,
         table_blocks(level) as usize,
-        type_after(change, level),
+        type_after(change, level).code(),
     );
     Ok(())
 }

@@ -36,7 +36,7 @@ fn check_create(
     ensures admitted { IfOk result (λ n. Admitted (store_of region.now) (table_entries (level_of level)) (table_entry (level_of level) (store_of region.now) block) members.new.bits n) }
 {
     check_image(golden)?;
-    region.check_table(level, block, BlockType::Data)?;
+    region.check_table(level, block, BlockType::Data.code())?;
     if is_counted(level, region, block) {
         return Err(Refusal::InUse);
     }

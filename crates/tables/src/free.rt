@@ -21,7 +21,7 @@ use validation::refusal::check_old_entries;
 fn check_free(level: Level, region: &Region<'_>, block: u32) -> Result<(), Refusal>
     ensures { answered result ≡ answer_of (free_judged (level_of level) (store_of region.now) block) }
 {
-    region.check_table(level, block, table_type(level))?;
+    region.check_table(level, block, table_type(level).code())?;
     if is_in_use(level, region, block) {
         return Err(Refusal::InUse);
     }

@@ -6,12 +6,11 @@ ghost use Rattle.entries.specs.Meaning.{level_of};
 ghost use Rattle.rules.specs.Create.{some_count};
 ghost use Rattle.rules.specs.Free.{in_use};
 ghost use Rattle.rules.specs.Store.{base_place, block_words, ledger_head_bytes, retype};
-ghost use Rattle.ledger.specs.Layout.{code_of};
 ghost use Rattle.ledger.specs.Needs.{InLedger, TableInside, record_of};
 ghost use Rattle.ledger.specs.Regions.{store_of};
 
 use entries::entry::Level;
-use ledger::layout::{BLOCK_WORDS, BlockType, Field, put_record_word, record_of, record_word};
+use ledger::layout::{BLOCK_WORDS, Field, record_of};
 use ledger::region::Region;
 use ledger::scan::some_above_zero;
 use ledger::table::table_blocks;
@@ -50,7 +49,7 @@ fn is_linked(region: &Region<'_>, block: u32) -> bool
     requires { TableInside l2 region.now.memory.now region.now.ledger.now block }
     ensures { result ≡ in_use l2 (store_of region.now) block }
 {
-    0 < record_word(region.ledger, Field::Linked, region.record_of(block))
+    0 < Field::Linked.get(region.ledger, region.record_of(block))
 }
 
 // The table is active, or linked to (free 6).
@@ -65,11 +64,11 @@ pub fn is_in_use(level: Level, region: &Region<'_>, block: u32) -> bool
 }
 
 // The types of the m blocks from block b on become t, b counted from the region's first.
-pub fn put_types(ledger: &mut [u8], b: usize, m: usize, t: BlockType)
+pub fn put_types(ledger: &mut [u8], b: usize, m: usize, t: u32)
     requires { InLedger ledger.old (b + m) }
-    ensures { ledger.new ≡ retype ledger.old b m (code_of t) }
+    ensures { ledger.new ≡ retype ledger.old b m t }
 {
     for i in 0..m {
-        put_record_word(ledger, Field::Type, b + i, t.code());
+        Field::Type.put(ledger, b + i, t);
     }
 }

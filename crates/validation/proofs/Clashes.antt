@@ -22,7 +22,7 @@ use Rattle.rules.specs.Create.{misplaced, clash, clashes, unsigned}
 use Rattle.rules.proofs.Gains.{gives_within, gives_at, grants_place, gain-any, gain_hit, gain_found}
 use Rattle.rules.proofs.State.{some_block_hit, some_block_found}
 use Rattle.rules.proofs.Walk.{cover_within}
-use Rattle.validation.specs.Sets.{member, InRegionOnly, AllGathered, meets_members, member_unknown, member_hashed, Admitted}
+use Rattle.validation.specs.Sets.{member, InRegionOnly, AllJoined, meets_members, member_unknown, member_hashed, Admitted}
 use Rattle.validation.specs.Tests.{meets, meets_count}
 use Rattle.validation.proofs.Covers.{given_inside, misplaced-astray}
 
@@ -216,14 +216,14 @@ module _ (s : Store) (m : ℕ) (e : ℕ → Entry) where
         rw (member_is k l, is) refl)
 
   -- the set that a look at the entries gathered
-  module _ (members : List ℕ) {writes : Bool} (gathered : AllGathered s m e members writes) where
+  module _ (members : List ℕ) (joined : AllJoined s m e members) where
     just_executed : (k : ℕ) → k < blocks s → member members k ≡ any m (λ i. gives executable (e i) (base s + k))
-    just_executed k l = gathered.joined k
+    just_executed k l = joined k
 
     -- no block behind the region's last is in it
     pub gathered_inside : ((i : ℕ) → i < m → astray (base s) (blocks s) (e i) ≡ false) → InRegionOnly s members
     gathered_inside placed b beyond =
-        gathered.joined b ∙ any_avoids (λ i. gives executable (e i) (base s + b)) m (λ i l.
+        joined b ∙ any_avoids (λ i. gives executable (e i) (base s + b)) m (λ i l.
         false_unless (gives executable (e i) (base s + b)) (λ g. let (lo, hi) = given_inside (base s) (blocks s) executable (e i) (base s + b) (placed i l) g in omega arith))
 
     pub clash_found : any m (λ i. meets_count s.ledger (e i)) ≡ false → ((i : ℕ) → i < m → astray (base s) (blocks s) (e i) ≡ false)

@@ -173,7 +173,7 @@ found_fault v s p e found h = sym (least found) ∙ ap (greater found) (of_fault
 -- What a look gathers
 
 -- an entry that grants nothing adds nothing
-gathers_nothing : (s : Store) (e : Entry) (members : List ℕ) {w : Bool} → grants executable e ≡ false → grants writable e ≡ false → Gathered s e members members w w
+pub gathers_nothing : (s : Store) (e : Entry) (members : List ℕ) {w : Bool} → grants executable e ≡ false → grants writable e ≡ false → Gathered s e members members w w
 gathers_nothing s e members {w} idle silent = record { joins = λ k. none_joins members (base s) e k idle; notes = rw silent (sym (or-false w)) }
 
 pub fault_gathers : (s : Store) (e : Entry) (members : List ℕ) {w : Bool} → is_fault e ≡ true → Gathered s e members members w w
@@ -265,7 +265,7 @@ module _ (v : Level) (golden : List ℕ) (s : Store) (p m : ℕ) (e : ℕ → En
     pub placed_all : (i : ℕ) → i < m → astray (base s) (blocks s) (e i) ≡ false
     placed_all = all_placed v s p m e fit
 
-    new_rest : {a : ℕ} → Decides (executed_entries golden s m e) a → Decides (new_entries v golden s p m e) a
+    pub new_rest : {a : ℕ} → Decides (executed_entries golden s m e) a → Decides (new_entries v golden s p m e) a
     new_rest d = past accepted (past fit d)
 
     none_decides : executing ≡ false → Decides (new_entries v golden s p m e) 0

@@ -25,9 +25,13 @@ pub record Gathered (s : Store) (e : Entry) (members members' : List ℕ) (write
   pub joins : (k : ℕ) → member members' k ≡ (member members k || gives executable e (base s + k))
   pub notes : writes' ≡ (writes || grants writable e)
 
+-- create 11, create 12: the set is that of the blocks that the m entries e execute
+abbrev pub AllJoined : Store → ℕ → (ℕ → Entry) → List ℕ → Type 0
+AllJoined s m e members = (k : ℕ) → member members k ≡ any m (λ i. gives executable (e i) (base s + k))
+
 -- create 11, create 12: what one look at each of the m entries e adds to an empty set; and whether one of them writes
 pub record AllGathered (s : Store) (m : ℕ) (e : ℕ → Entry) (members : List ℕ) (writes : Bool) : Type 0 where
-  pub joined : (k : ℕ) → member members k ≡ any m (λ i. gives executable (e i) (base s + k))
+  pub joined : AllJoined s m e members
   pub written : writes ≡ any m (λ i. grants writable (e i))
 
 -- the set has no block

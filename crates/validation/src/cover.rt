@@ -3,15 +3,13 @@ ghost use Rattle.std.specs.Prelude.{◌≡◌};
 ghost use Rattle.words.specs.Bounded.{above, neqb};
 ghost use Rattle.entries.specs.Meaning.{meaning};
 ghost use Rattle.rules.specs.Store.{counter_word, type_word};
-ghost use Rattle.ledger.specs.Layout.{code_of};
 ghost use Rattle.ledger.specs.Meaning.{counter_of};
 ghost use Rattle.validation.specs.Needs.{CoverRecorded};
 ghost use Rattle.validation.specs.Tests.{overlap, some_covered};
 
 use entries::entry::Entry;
 use ledger::counters::Counter;
-use ledger::layout::{BlockType, Field};
-use ledger::region::Region;
+use ledger::layout::{Field, record_of};
 use ledger::scan::{some_above_zero, some_differs};
 
 // m blocks from p on and n blocks from q on, neither empty, have a block in common.
@@ -22,25 +20,19 @@ pub fn overlap(p: u32, m: u32, q: u32, n: u32) -> bool
 }
 
 // Some block has another type than t.
-pub fn cover_differs(region: &Region<'_>, e: Entry, t: BlockType) -> bool
-    requires { CoverRecorded region.now.ledger.now (meaning e) }
-    ensures { result ≡ some_covered region.now.ledger.now type_word (meaning e) (λ x. neqb x (code_of t)) }
+pub fn cover_differs(ledger: &[u8], e: Entry, t: u32) -> bool
+    requires { CoverRecorded ledger.now (meaning e) }
+    ensures { result ≡ some_covered ledger.now type_word (meaning e) (λ x. neqb x t) }
 {
-    let b = region.record_of(e.cover_first());
-    some_differs(
-        region.ledger,
-        Field::Type,
-        b,
-        e.cover_blocks() as usize,
-        t.code(),
-    )
+    let b = record_of(ledger, e.cover_first());
+    some_differs(ledger, Field::Type, b, e.cover_blocks() as usize, t)
 }
 
 // Some block's counter is above 0.
-pub fn cover_counts(region: &Region<'_>, counter: Counter, e: Entry) -> bool
-    requires { CoverRecorded region.now.ledger.now (meaning e) }
-    ensures { result ≡ some_covered region.now.ledger.now (counter_word (counter_of counter)) (meaning e) (λ x. above x 0) }
+pub fn cover_counts(ledger: &[u8], counter: Counter, e: Entry) -> bool
+    requires { CoverRecorded ledger.now (meaning e) }
+    ensures { result ≡ some_covered ledger.now (counter_word (counter_of counter)) (meaning e) (λ x. above x 0) }
 {
-    let b = region.record_of(e.cover_first());
-    some_above_zero(region.ledger, counter.field(), b, e.cover_blocks() as usize)
+    let b = record_of(ledger, e.cover_first());
+    some_above_zero(ledger, counter.field(), b, e.cover_blocks() as usize)
 }

@@ -10,7 +10,7 @@ ghost use Rattle.rules.specs.Tables.{gives, grants};
 ghost use Rattle.ledger.specs.Needs.{InLedger};
 ghost use Rattle.ledger.specs.Refusals.{answered};
 ghost use Rattle.ledger.specs.Regions.{store_of};
-ghost use Rattle.validation.specs.Sets.{Admitted, AllGathered, meets_members, member, member_hashed};
+ghost use Rattle.validation.specs.Sets.{Admitted, AllJoined, meets_members, member, member_hashed};
 ghost use Rattle.validation.specs.Needs.{InRegion};
 ghost use Rattle.validation.specs.Pieces.{executed_entries};
 ghost use Rattle.validation.specs.Tables.{InPlace, entries_of};
@@ -104,10 +104,10 @@ impl Table<'_> {
         false
     }
 
-    // The same, where it is known whether some entry writes.
+    // The same. Where the flag is not set no entry writes, and so none a block of the set.
     fn some_clashes(&self, members: &BlockSet, writes: bool) -> bool
         requires in_place { InPlace self.now }
-        requires written { writes ≡ any self.now.entries (λ i. grants writable (entries_of self.now i)) }
+        requires silent { writes ≡ false → any self.now.entries (λ i. grants writable (entries_of self.now i)) ≡ false }
         ensures { result ≡ any self.now.entries (λ i. meets_members self.now.region.ledger.now members.now.bits (entries_of self.now i)) }
     {
         writes && self.some_meets_members(members)
@@ -122,7 +122,8 @@ impl Table<'_> {
         writes: bool,
     ) -> Result<u32, Refusal>
         requires in_place { InPlace self.now }
-        requires all_gathered { AllGathered (store_of self.now.region) self.now.entries (entries_of self.now) members.now.bits writes }
+        requires joined { AllJoined (store_of self.now.region) self.now.entries (entries_of self.now) members.now.bits }
+        requires silent { writes ≡ false → any self.now.entries (λ i. grants writable (entries_of self.now i)) ≡ false }
         requires uncounted { any self.now.entries (λ i. meets_count self.now.region.ledger.now (entries_of self.now i)) ≡ false }
         ensures value { answered result ≡ answer_of (executed_entries golden.now (store_of self.now.region) self.now.entries (entries_of self.now)) }
         ensures admitted { IfOk result (λ n. Admitted (store_of self.now.region) self.now.entries (entries_of self.now) members.now.bits n) }

@@ -1,22 +1,57 @@
 // One look at a table: the greatest of what is found of its entries. It ends at an entry that is not accepted.
-ghost use Rattle.std.specs.Prelude.{◌≡◌, ◌<◌};
+ghost use Rattle.std.specs.Prelude.{◌≡◌, ◌<◌, ◌^◌};
 ghost use Rattle.entries.specs.Meaning.{level_of, meaning};
 ghost use Rattle.rules.specs.Store.{base, blocks};
 ghost use Rattle.ledger.specs.Regions.{store_of};
 ghost use Rattle.validation.specs.Findings.{entry_finding, finding_of, greater, new_finding, old_finding, place_finding};
+ghost use Rattle.validation.specs.Needs.{HoldsWords};
 ghost use Rattle.validation.specs.Sets.{AllGathered, EmptySet, Gathered};
 ghost use Rattle.validation.specs.Tables.{entries_of};
+ghost use Rattle.validation.specs.Tests.{entry_from};
 
 use crate::finding::Finding;
 use crate::set::BlockSet;
 use crate::table::Table;
-use entries::entry::Entry;
+use crate::target::entry_finding;
+use entries::decode::entry_at;
+use entries::entry::{Entry, Level};
+use ledger::region::is_astray;
 
 // What is found of entries, and whether one of them writes.
 #[derive(Clone, Copy)]
 pub struct Survey {
     pub found: Finding,
     pub writes: bool,
+}
+
+// What is found of one entry of a table that is freed, in a region of n blocks from first on.
+fn place_finding(e: Entry, first: u32, n: usize) -> Finding
+    requires { n < 2 ^ 32 }
+    ensures { finding_of result ≡ place_finding first n (meaning e) }
+{
+    if e.is_unaccepted() {
+        return Finding::Unaccepted;
+    }
+    if is_astray(e, first, n) {
+        return Finding::Misplaced;
+    }
+    Finding::Fine
+}
+
+// Of a table that is freed, whose m entries stand from word j of the memory on.
+pub fn survey_old(level: Level, memory: &[u8], j: usize, m: usize, first: u32, n: usize) -> Finding
+    requires { HoldsWords memory.now j m × (n < 2 ^ 32) }
+    ensures { finding_of result ≡ old_finding first n m (entry_from (level_of level) memory.now j) }
+{
+    let mut found = Finding::Fine;
+    for i in 0..m {
+        let one = place_finding(entry_at(level, memory, j + i), first, n);
+        if one == Finding::Unaccepted {
+            return one;
+        }
+        found = found.max(one);
+    }
+    found
 }
 
 impl Table<'_> {
@@ -36,7 +71,7 @@ impl Table<'_> {
         if e.is_fault() {
             return found;
         }
-        let one = self.entry_finding(block, members, writes, e);
+        let one = entry_finding(self.level, &self.region, members, writes, block, e);
         found.max(one)
     }
 
@@ -58,31 +93,13 @@ impl Table<'_> {
         Survey { found, writes }
     }
 
-    // What is found of one entry of a table that is freed.
-    fn place_finding(&self, e: Entry) -> Finding
-        ensures { finding_of result ≡ place_finding (base (store_of self.now.region)) (blocks (store_of self.now.region)) (meaning e) }
-    {
-        if e.is_unaccepted() {
-            return Finding::Unaccepted;
-        }
-        if self.region.is_astray(e) {
-            return Finding::Misplaced;
-        }
-        Finding::Fine
-    }
-
     // Of a table that is freed.
     pub fn survey_old(&self) -> Finding
         ensures { finding_of result ≡ old_finding (base (store_of self.now.region)) (blocks (store_of self.now.region)) self.now.entries (entries_of self.now) }
     {
-        let mut found = Finding::Fine;
-        for i in 0..self.entries {
-            let one = self.place_finding(self.entry(i));
-            if one == Finding::Unaccepted {
-                return one;
-            }
-            found = found.max(one);
-        }
-        found
+        let memory = self.region.memory;
+        let first = self.region.base();
+        let n = self.region.blocks();
+        survey_old(self.level, memory, self.first, self.entries, first, n)
     }
 }

@@ -14,8 +14,7 @@ use crate::cover::{cover_counts, cover_differs, overlap};
 use crate::executed::insert_executed;
 use crate::finding::Finding;
 use crate::set::BlockSet;
-use crate::table::Table;
-use entries::entry::Entry;
+use entries::entry::{Entry, Level};
 use ledger::counters::{Counter, grants, grants_some};
 use ledger::layout::BlockType;
 use ledger::region::Region;
@@ -27,7 +26,7 @@ fn is_unfit_link(region: &Region<'_>, e: Entry) -> bool
     ensures { result ≡ unfit_link (store_of region.now) (meaning e) }
 {
     if e.is_link() {
-        return cover_differs(region, e, BlockType::L2);
+        return cover_differs(region.ledger, e, BlockType::L2.code());
     }
     false
 }
@@ -38,7 +37,7 @@ fn meets(region: &Region<'_>, granted: Counter, counted: Counter, e: Entry) -> b
     ensures { result ≡ meets (counter_of granted) (counter_of counted) region.now.ledger.now (meaning e) }
 {
     if grants(granted, e) {
-        return cover_counts(region, counted, e);
+        return cover_counts(region.ledger, counted, e);
     }
     false
 }
@@ -54,84 +53,84 @@ fn meets_count(region: &Region<'_>, e: Entry) -> bool
     meets(region, Counter::Executable, Counter::Writable, e)
 }
 
-impl Table<'_> {
-    // Write to a block that is no data, or belongs to the table, which is created at a block (create 10).
-    fn is_unfit_write(&self, block: u32, e: Entry) -> bool
-        requires { EntryRecorded self.now.region.ledger.now (meaning e) }
-        ensures { result ≡ unfit_write (level_of self.now.level) (store_of self.now.region) block (meaning e) }
-    {
-        if !grants(Counter::Writable, e) {
-            return false;
-        }
-        if cover_differs(&self.region, e, BlockType::Data) {
-            return true;
-        }
-        overlap(
-            e.cover_first(),
-            e.cover_blocks(),
-            block,
-            table_blocks(self.level),
-        )
+// Write to a block that is no data, or belongs to the table, which is created at a block (create 10).
+fn is_unfit_write(level: Level, region: &Region<'_>, block: u32, e: Entry) -> bool
+    requires { EntryRecorded region.now.ledger.now (meaning e) }
+    ensures { result ≡ unfit_write (level_of level) (store_of region.now) block (meaning e) }
+{
+    if !grants(Counter::Writable, e) {
+        return false;
     }
+    if cover_differs(region.ledger, e, BlockType::Data.code()) {
+        return true;
+    }
+    overlap(
+        e.cover_first(),
+        e.cover_blocks(),
+        block,
+        table_blocks(level),
+    )
+}
 
-    // Its target is unfit.
-    fn is_unfit(&self, block: u32, e: Entry) -> bool
-        requires { EntryRecorded self.now.region.ledger.now (meaning e) }
-        ensures { result ≡ unfit (level_of self.now.level) (store_of self.now.region) block (meaning e) }
-    {
-        if is_unfit_link(&self.region, e) {
-            return true;
-        }
-        self.is_unfit_write(block, e)
+// Its target is unfit.
+fn is_unfit(level: Level, region: &Region<'_>, block: u32, e: Entry) -> bool
+    requires { EntryRecorded region.now.ledger.now (meaning e) }
+    ensures { result ≡ unfit (level_of level) (store_of region.now) block (meaning e) }
+{
+    if is_unfit_link(region, e) {
+        return true;
     }
+    is_unfit_write(level, region, block, e)
+}
 
-    // What is found of the target of an accepted entry whose place is in the region. Where nothing is held against it, the blocks that it executes join
-    // the set, and that it writes is noted.
-    fn target_finding(
-        &self,
-        block: u32,
-        members: &mut BlockSet,
-        writes: &mut bool,
-        e: Entry,
-    ) -> Finding
-        requires { InRegion self.now.region.memory.now self.now.region.ledger.now (meaning e) × EntryRecorded self.now.region.ledger.now (meaning e) }
-        ensures value { finding_of result ≡ target_finding (level_of self.now.level) (store_of self.now.region) block (meaning e) }
-        ensures gathered { finding_of result < 2 → Gathered (store_of self.now.region) (meaning e) members.old.bits members.new.bits writes.old writes.new }
-    {
-        if self.is_unfit(block, e) {
-            return Finding::Misplaced;
-        }
-        if meets_count(&self.region, e) {
-            return Finding::MeetsCount;
-        }
-        *writes |= grants(Counter::Writable, e);
-        if grants(Counter::Executable, e) {
-            insert_executed(&self.region, members, e);
-            return Finding::Executes;
-        }
-        Finding::Fine
+// What is found of the target of an accepted entry whose place is in the region. Where nothing is held against it, the blocks that it executes join
+// the set, and that it writes is noted.
+fn target_finding(
+    level: Level,
+    region: &Region<'_>,
+    members: &mut BlockSet,
+    writes: &mut bool,
+    block: u32,
+    e: Entry,
+) -> Finding
+    requires { InRegion region.now.memory.now region.now.ledger.now (meaning e) × EntryRecorded region.now.ledger.now (meaning e) }
+    ensures value { finding_of result ≡ target_finding (level_of level) (store_of region.now) block (meaning e) }
+    ensures gathered { finding_of result < 2 → Gathered (store_of region.now) (meaning e) members.old.bits members.new.bits writes.old writes.new }
+{
+    if is_unfit(level, region, block, e) {
+        return Finding::Misplaced;
     }
+    if meets_count(region, e) {
+        return Finding::MeetsCount;
+    }
+    *writes |= grants(Counter::Writable, e);
+    if grants(Counter::Executable, e) {
+        insert_executed(region, members, e);
+        return Finding::Executes;
+    }
+    Finding::Fine
+}
 
-    // What is found of one entry of a table that is created at a block.
-    pub fn entry_finding(
-        &self,
-        block: u32,
-        members: &mut BlockSet,
-        writes: &mut bool,
-        e: Entry,
-    ) -> Finding
-        ensures value { finding_of result ≡ entry_finding (level_of self.now.level) (store_of self.now.region) block (meaning e) }
-        ensures gathered { finding_of result < 2 → Gathered (store_of self.now.region) (meaning e) members.old.bits members.new.bits writes.old writes.new }
-    {
-        if e.is_unaccepted() {
-            return Finding::Unaccepted;
-        }
-        if self.region.is_astray(e) {
-            return Finding::Misplaced;
-        }
-        if grants_some(e) {
-            return self.target_finding(block, members, writes, e);
-        }
-        Finding::Fine
+// What is found of one entry of a table that is created at a block.
+pub fn entry_finding(
+    level: Level,
+    region: &Region<'_>,
+    members: &mut BlockSet,
+    writes: &mut bool,
+    block: u32,
+    e: Entry,
+) -> Finding
+    ensures value { finding_of result ≡ entry_finding (level_of level) (store_of region.now) block (meaning e) }
+    ensures gathered { finding_of result < 2 → Gathered (store_of region.now) (meaning e) members.old.bits members.new.bits writes.old writes.new }
+{
+    if e.is_unaccepted() {
+        return Finding::Unaccepted;
     }
+    if region.is_astray(e) {
+        return Finding::Misplaced;
+    }
+    if grants_some(e) {
+        return target_finding(level, region, members, writes, block, e);
+    }
+    Finding::Fine
 }

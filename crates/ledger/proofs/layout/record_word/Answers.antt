@@ -4,4 +4,4 @@ use Rattle.ledger.proofs.layout.record_word.Goals as goal
 
 pub returns : goal.returns
 unfolding record_word
-returns c = rw c.place.ensures.is at c.word.ensures
+returns c = c.word.ensures

@@ -3,4 +3,4 @@ use mathlib.Core.Path.{refl}
 use Rattle.ledger.proofs.marks.is_marked.Goals as goal
 
 pub returns : goal.returns
-returns c = rw c.record_word.ensures refl
+returns c = rw c.get.ensures refl

@@ -7,7 +7,7 @@ use Rattle.ledger.proofs.scan.some_differs.Goals as goal
 
 pub returns-then-m-eq1 : goal.returns-then-m-eq1
 unfolding any
-returns-then-m-eq1 c = let b = c.args.b in let at : b + 0 ≡ b = omega arith in rw (c.if-m-eq1.true, at, c.record_word.ensures) refl
+returns-then-m-eq1 c = let b = c.args.b in let at : b + 0 ≡ b = omega arith in rw (c.if-m-eq1.true, at, c.get.ensures) refl
 
 pub returns : goal.returns
 returns c = c.some_below.ensures _ (λ i b l k. search (rules, tests))

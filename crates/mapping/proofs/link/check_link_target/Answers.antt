@@ -22,16 +22,16 @@ returns-then-is_outside c = decides (here (told c.is_outside.ensures c.if-is_out
 pub record_of-b-requires : goal.record_of-b-requires
 record_of-b-requires c = (within _ _ _ _ (inside c)).0
 
-pub record_word-requires : goal.record_word-requires
-record_word-requires c = let fit = fits_stored _ c.args.region.now.fits in
-    let (lo, hi) = within _ _ _ _ (inside (goal.at.record_word-requires c).Else-is_outside) in
+pub get-requires : goal.get-requires
+get-requires c = let fit = fits_stored _ c.args.region.now.fits in
+    let (lo, hi) = within _ _ _ _ (inside (goal.at.get-requires c).Else-is_outside) in
     let b = c.record_of-b.ensures in
     omega arith
 
-pub returns-then-record_word-code : goal.returns-then-record_word-code
-returns-then-record_word-code c = decides
-    (past (inside (goal.at.returns-then-record_word-code c).Else-is_outside)
-    (here (differ _ _ (rw (c.record_word.ensures, c.record_of-b.ensures.is, c.code.ensures) at c.if-record_word-code.true))))
+pub returns-then-get-code : goal.returns-then-get-code
+returns-then-get-code c = decides
+    (past (inside (goal.at.returns-then-get-code c).Else-is_outside)
+    (here (differ _ _ (rw (c.get.ensures, c.record_of-b.ensures.is, c.code.ensures) at c.if-get-code.true))))
 
 pub overflow_mul-e : goal.overflow_mul-e
 overflow_mul-e c = let fit = fits_stored _ c.args.region.now.fits in
@@ -47,12 +47,12 @@ pub returns-then-blocks_overrun : goal.returns-then-blocks_overrun
 returns-then-blocks_overrun c = let overrun = c.blocks_overrun.ensures _ _ (link_spreads c.args.target c.args.table c.requires) in
     decides
     (past (inside (goal.at.returns-then-blocks_overrun c).Else-is_outside)
-    (past (same _ _ (rw (c.record_word.ensures, c.record_of-b.ensures.is, c.code.ensures) at c.if-record_word-code.false))
+    (past (same _ _ (rw (c.get.ensures, c.record_of-b.ensures.is, c.code.ensures) at c.if-get-code.false))
     (here (told overrun c.if-blocks_overrun.true))))
 
 pub returns : goal.returns
 returns c = let overrun = c.blocks_overrun.ensures _ _ (link_spreads c.args.target c.args.table c.requires) in
     decides
     (past (inside (goal.at.returns c).Else-is_outside)
-    (past (same _ _ (rw (c.record_word.ensures, c.record_of-b.ensures.is, c.code.ensures) at c.if-record_word-code.false))
+    (past (same _ _ (rw (c.get.ensures, c.record_of-b.ensures.is, c.code.ensures) at c.if-get-code.false))
     (past (told overrun c.if-blocks_overrun.false) none)))

@@ -16,6 +16,7 @@ use Rattle.mapping.specs.Pieces.{holder_refusals, map_place_refusals, map_target
 use Rattle.mapping.specs.Meaning.{form_of}
 use Rattle.mapping.proofs.Exits.{exit_answers}
 use Rattle.mapping.proofs.Mappings.{map_table, map_slot, map-judged}
+use Rattle.mapping.proofs.Slots.{bounds}
 use Rattle.mapping.proofs.map.check_map.Goals as goal
 use Rattle.mapping.proofs.map.check_map.Goals.{In_ok-check_holder, In_ok-check_map_place}
 
@@ -65,6 +66,15 @@ pub returns-then-are_unlawful : goal.returns-then-are_unlawful
 returns-then-are_unlawful c =
     from_words (goal.at.returns-then-are_unlawful c).In_ok-check_holder c.mapping_words.ensures.is
     (past (told (c.is_occupied.ensures _) c.if-is_occupied.false) (here (told c.are_unlawful.ensures c.if-are_unlawful.true)))
+
+pub check_target-requires-clause-holder_fits : goal.check_target-requires-clause-holder_fits
+check_target-requires-clause-holder_fits c =
+    let a = c.args in
+    let b = bounds (map_table (form_of a.form) a.golden.now (store_of a.region.now) a.request.block a.request.index a.request.target a.request.kind (placed (goal.at.check_target-requires-clause-holder_fits c).In_ok-check_map_place)) in
+    let f = b.fit in
+    let h = b.high in
+    let k = b.holder_in in
+    omega arith
 
 pub returns : goal.returns
 returns c =

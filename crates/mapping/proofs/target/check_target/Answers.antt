@@ -1,6 +1,7 @@
 -- Each return is decided by the tests up to its own.
 use mathlib.Core.Bool.{false}
 use mathlib.Core.Path.{◌≡◌}
+use native.Mathlib.Omega.{arith}
 use Rattle.words.proofs.Bounded.{told}
 use Rattle.rules.specs.Tables.{target_blocks}
 use Rattle.rules.specs.Map.{unfit_target, clashing_target, unsigned_target}
@@ -17,7 +18,7 @@ unfolding unfit_target
 fit c =
     let m = c.target_blocks-m.ensures.is in
     rw (told (rw m at c.is_outside.ensures) c.if-is_outside.false, told (rw m at c.writes_table.ensures) c.if-writes_table.false)
-    (told (rw (m, c.requires.holder_value) at c.executes.ensures) c.if-executes.false)
+    (told (rw m at c.executes.ensures) c.if-executes.false)
 
 alone : (c : Else-is_clashing) → (let a = c.args in clashing_target (store_of a.region.now) a.request.target (target_blocks (form_of a.form)) a.request.rights ≡ false)
 alone c = told (rw c.target_blocks-m.ensures.is at c.is_clashing.ensures) c.if-is_clashing.false
@@ -35,12 +36,15 @@ returns-then-writes_table c =
     let m = c.target_blocks-m.ensures.is in
     decides (here (rw (told (rw m at c.is_outside.ensures) c.if-is_outside.false, told (rw m at c.writes_table.ensures) c.if-writes_table.true)))
 
+pub overflow_add-request : goal.overflow_add-request
+overflow_add-request c = omega (arith, c.requires.holder_fits)
+
 pub returns-then-executes : goal.returns-then-executes
 unfolding unfit_target
 returns-then-executes c =
     let m = c.target_blocks-m.ensures.is in
     decides (here (rw (told (rw m at c.is_outside.ensures) c.if-is_outside.false, told (rw m at c.writes_table.ensures) c.if-writes_table.false)
-    (told (rw (m, c.requires.holder_value) at c.executes.ensures) c.if-executes.true)))
+    (told (rw m at c.executes.ensures) c.if-executes.true)))
 
 pub returns-then-is_clashing : goal.returns-then-is_clashing
 returns-then-is_clashing c = decides (past (fit (goal.at.returns-then-is_clashing c).Else-executes) (here (told (rw c.target_blocks-m.ensures.is at c.is_clashing.ensures) c.if-is_clashing.true)))

@@ -8,4 +8,4 @@ abbrev pub invariant-loop-j : goal.invariant-loop-j
 invariant-loop-j l = agrees l.digest l.golden l.k l.j ≡ true
 
 abbrev pub invariant-search : goal.invariant-search
-invariant-search l = any l.k (λ i. agrees l.digest l.golden i digest_bytes) ≡ false
+invariant-search l = (l.found ≡ false) × (any l.k (λ i. agrees l.digest l.golden i digest_bytes) ≡ false)

@@ -33,4 +33,4 @@ put_types-requires c =
 pub returns : goal.returns
 returns c =
     let counted = rw (c.first_word-j.ensures, c.table_entries-m.ensures) at c.in_ok-count_table.ensures.changed in
-    record { changed = record { tells = counted.tells; leaves = rw (counted.leaves, c.record_of-b.ensures.is, c.table_blocks.ensures.0, c.type_after.ensures) at c.put_types.ensures }; overrun = tt }
+    record { changed = record { tells = counted.tells; leaves = rw (counted.leaves, c.record_of-b.ensures.is, c.table_blocks.ensures.0, c.code.ensures, c.type_after.ensures) at c.put_types.ensures }; overrun = tt }

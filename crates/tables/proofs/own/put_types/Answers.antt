@@ -11,11 +11,11 @@ loop-i-init c = (omega arith, (refl, refl))
 pub overflow_add-b : goal.overflow_add-b
 overflow_add-b c = let inv = c.loop-i.invariant.1 in omega arith
 
-pub put_record_word-requires : goal.put_record_word-requires
-put_record_word-requires c = let inv = c.loop-i.invariant.1 in omega arith
+pub put-requires : goal.put-requires
+put-requires c = let inv = c.loop-i.invariant.1 in omega arith
 
 pub loop-i-preserved : goal.loop-i-preserved
-loop-i-preserved c = (omega arith, (omega arith, (rw (c.loop-i.invariant.1.1, c.code.ensures) at c.put_record_word.ensures) ∙ sym (retype_more _ _ c.loop-i.i _)))
+loop-i-preserved c = (omega arith, (omega arith, (rw c.loop-i.invariant.1.1 at c.put.ensures) ∙ sym (retype_more _ _ c.loop-i.i _)))
 
 pub shape_of-ledger : goal.shape_of-ledger
 shape_of-ledger c = c.loop-i.invariant.1.0

@@ -1,5 +1,5 @@
 -- What is found decides: first 8, then 10, then 11 against the ledger; the rest is left to the entries that execute.
-use mathlib.Core.Path.{refl}
+use mathlib.Core.Path.{refl, sym, ◌∙◌}
 use native.Mathlib.Omega.{arith}
 use Rattle.ledger.proofs.Judge.{decides, judged}
 use Rattle.validation.proofs.Clashes.{admitted_none}
@@ -12,6 +12,16 @@ check_executed-requires-clause-in_place c =
     let golden = start.args.golden.now in
     let (accepted, fit, apart) = new_clear _ golden _ _ _ _ (rw c.in-Executes.is at c.survey_new-survey.ensures.value) in
     record { fits = start.args.region.now.fits; holds = start.requires.holds_words; accepted = accepted_all _ golden _ _ _ _ accepted fit apart; placed = placed_all _ golden _ _ _ _ accepted fit apart }
+
+pub check_executed-requires-clause-joined : goal.check_executed-requires-clause-joined
+check_executed-requires-clause-joined c =
+    let found = rw c.in-Executes.is at c.survey_new-survey.ensures in
+    (found.all_gathered (omega arith)).joined
+
+pub check_executed-requires-clause-silent : goal.check_executed-requires-clause-silent
+check_executed-requires-clause-silent c w =
+    let found = rw c.in-Executes.is at c.survey_new-survey.ensures in
+    sym (found.all_gathered (omega arith)).written ∙ w
 
 pub check_executed-requires-clause-uncounted : goal.check_executed-requires-clause-uncounted
 check_executed-requires-clause-uncounted c = (new_clear _ c.args.golden.now _ _ _ _ (rw c.in-Executes.is at c.survey_new-survey.ensures.value)).2
@@ -35,4 +45,4 @@ pub returns-in-Fine-clause-admitted : goal.returns-in-Fine-clause-admitted
 returns-in-Fine-clause-admitted c =
     let found = rw c.in-Fine.is at c.survey_new-survey.ensures in
     let none_executes = (new_fine _ c.args.golden.now _ _ _ _ found.value).0 in
-    admitted_none _ _ _ _ (found.all_gathered (omega arith)) none_executes refl
+    admitted_none _ _ _ _ (found.all_gathered (omega arith)).joined none_executes refl

@@ -11,7 +11,7 @@ cover_differs-requires c = c.requires linked (told c.is_link.ensures c.if-is_lin
 
 pub returns-then-is_link : goal.returns-then-is_link
 unfolding unfit_link
-returns-then-is_link c = rw (told c.is_link.ensures c.if-is_link.true) c.cover_differs.ensures
+returns-then-is_link c = rw (told c.is_link.ensures c.if-is_link.true) (rw c.code.ensures at c.cover_differs.ensures)
 
 pub returns : goal.returns
 unfolding unfit_link

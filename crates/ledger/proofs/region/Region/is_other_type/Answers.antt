@@ -5,7 +5,6 @@ use native.Mathlib.Omega.{arith}
 use Rattle.words.specs.Bounded.{neqb}
 use Rattle.rules.specs.Store.{record_word, type_word}
 use Rattle.rules.proofs.State.{fits_stored, within}
-use Rattle.ledger.specs.Layout.{code_of}
 use Rattle.ledger.proofs.Blocks.{some_block_records}
 use Rattle.ledger.proofs.region.Region.is_other_type.Goals as goal
 
@@ -20,5 +19,5 @@ some_differs-requires c = let fit = fits_stored _ c.args.self.now.fits in
 
 pub returns : goal.returns
 returns c = let a = c.args in
-    (rw (c.record_of-b.ensures.is, c.table_blocks.ensures.0, c.code.ensures) at c.some_differs.ensures)
-    ∙ some_block_records _ a.block _ (λ (x : ℕ). neqb (record_word a.self.now.ledger.now type_word x) (code_of a.t)) (within _ _ _ _ c.requires).0
+    (rw (c.record_of-b.ensures.is, c.table_blocks.ensures.0) at c.some_differs.ensures)
+    ∙ some_block_records _ a.block _ (λ (x : ℕ). neqb (record_word a.self.now.ledger.now type_word x) a.t) (within _ _ _ _ c.requires).0

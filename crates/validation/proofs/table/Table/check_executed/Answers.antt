@@ -13,28 +13,28 @@ use Rattle.ledger.specs.Refusals.{answered}
 use Rattle.ledger.specs.declared.refusals.Refusal.TheVariants.{Unsigned}
 use Rattle.ledger.proofs.Judge.{decides, none, here, past}
 use Rattle.validation.specs.Pieces.{executed_entries}
-use Rattle.validation.specs.Sets.{AllGathered, Admitted, hash_number}
+use Rattle.validation.specs.Sets.{AllJoined, Admitted, hash_number}
 use Rattle.validation.proofs.Clashes.{clash_found, unsigned_found, gathered_inside, admitted}
 use Rattle.validation.proofs.Hashing.{region_unknown, region_known, region_counted}
 use Rattle.validation.proofs.table.Table.check_executed.Goals as goal
 
-module _ (golden : List ℕ) (s : Store) (m : ℕ) (e : ℕ → Entry) (members : List ℕ) {writes : Bool} (gathered : AllGathered s m e members writes) (apart : some_region_block s (clashes s m e) ≡ false) where
+module _ (golden : List ℕ) (s : Store) (m : ℕ) (e : ℕ → Entry) (members : List ℕ) (joined : AllJoined s m e members) (apart : some_region_block s (clashes s m e) ≡ false) where
   value_hashed : (n : Option ℕ) → n ≡ hash_number golden s members 0 (blocks s) → answered (ok_or n Unsigned) ≡ answer_of (executed_entries golden s m e)
-  value_hashed None is = decides (past apart (here (unsigned_found s m e members gathered golden refl (region_unknown golden s members is))))
-  value_hashed (Some n) is = decides (past apart (past (unsigned_found s m e members gathered golden refl (region_known golden s members is)) none))
+  value_hashed None is = decides (past apart (here (unsigned_found s m e members joined golden refl (region_unknown golden s members is))))
+  value_hashed (Some n) is = decides (past apart (past (unsigned_found s m e members joined golden refl (region_known golden s members is)) none))
 
   admitted_hashed : (n : Option ℕ) → n ≡ hash_number golden s members 0 (blocks s) → IfOk (ok_or n Unsigned) (λ n. Admitted s m e members n)
   admitted_hashed None is = tt
-  admitted_hashed (Some n) is = admitted s m e members gathered (region_counted golden s members is)
+  admitted_hashed (Some n) is = admitted s m e members joined (region_counted golden s members is)
 
 pub returns-then-some_clashes : goal.returns-then-some_clashes
-returns-then-some_clashes c = record { value = decides (here (clash_found _ _ _ _ c.requires.all_gathered c.requires.uncounted c.requires.in_place.placed c.some_clashes.ensures c.if-some_clashes.true)); admitted = tt }
+returns-then-some_clashes c = record { value = decides (here (clash_found _ _ _ _ c.requires.joined c.requires.uncounted c.requires.in_place.placed c.some_clashes.ensures c.if-some_clashes.true)); admitted = tt }
 
 pub hash_members-requires : goal.hash_members-requires
-hash_members-requires c = gathered_inside _ _ _ _ c.requires.all_gathered c.requires.in_place.placed
+hash_members-requires c = gathered_inside _ _ _ _ c.requires.joined c.requires.in_place.placed
 
 pub returns : goal.returns
 returns c =
-    let gathered = c.requires.all_gathered in
-    let apart = clash_found _ _ _ _ gathered c.requires.uncounted c.requires.in_place.placed c.some_clashes.ensures c.if-some_clashes.false in
-    rw c.ok_or.ensures.value (record { value = value_hashed _ _ _ _ _ gathered apart _ c.hash_members.ensures; admitted = admitted_hashed _ _ _ _ _ gathered apart _ c.hash_members.ensures })
+    let joined = c.requires.joined in
+    let apart = clash_found _ _ _ _ joined c.requires.uncounted c.requires.in_place.placed c.some_clashes.ensures c.if-some_clashes.false in
+    rw c.ok_or.ensures.value (record { value = value_hashed _ _ _ _ _ joined apart _ c.hash_members.ensures; admitted = admitted_hashed _ _ _ _ _ joined apart _ c.hash_members.ensures })

@@ -8,5 +8,5 @@ pub returns-else-writes : goal.returns-else-writes
 unfolding meets_members
 returns-else-writes c =
     let start = c in
-    let none = sym start.requires.written ∙ c.if-writes.false in
+    let none = start.requires.silent c.if-writes.false in
     c.if-writes.false ∙ sym (any_avoids _ start.args.self.now.entries (λ i l. rw (any_none _ start.args.self.now.entries none i l) refl))

@@ -1,16 +1,9 @@
-use mathlib.Core.Path.{sym, ◌∙◌, ap}
+-- The region is the one in which the entries' places lie.
 use native.Mathlib.Omega.{arith}
-use Rattle.validation.specs.Findings.{finding_of}
-use Rattle.validation.proofs.Surveys.{old_start, old_left, old_next, is_unaccepted_finding, greater_max}
 use Rattle.validation.proofs.table.Table.survey_old.Goals as goal
 
-pub loop-i-init : goal.loop-i-init
-loop-i-init c = (omega arith, old_start _ _ 0 _)
+pub survey_old-requires : goal.survey_old-requires
+survey_old-requires c = (c.args.self.now.holds_words, omega (arith, c.blocks-n.ensures.bound))
 
-pub returns-then-eq : goal.returns-then-eq
-returns-then-eq c =
-    let found = is_unaccepted_finding _ (sym c.eq.ensures ∙ c.if-eq.true) in
-    found ∙ old_left _ _ _ _ c.loop-i.i (omega arith) (sym found ∙ (rw c.entry.ensures at c.place_finding-one.ensures))
-
-pub loop-i-preserved : goal.loop-i-preserved
-loop-i-preserved c = (omega arith, old_next _ _ c.loop-i.i _ c.loop-i.i c.loop-i.invariant.1 (rw c.entry.ensures at c.place_finding-one.ensures) (ap finding_of c.max-found.ensures ∙ greater_max _ _))
+pub returns : goal.returns
+returns c = rw (c.base-first.ensures, c.blocks-n.ensures.value) at c.survey_old.ensures

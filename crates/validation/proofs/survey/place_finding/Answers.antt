@@ -2,7 +2,7 @@
 use mathlib.Core.Path.{refl}
 use Rattle.words.proofs.Bounded.{told}
 use Rattle.validation.specs.Findings.{finding}
-use Rattle.validation.proofs.table.Table.place_finding.Goals as goal
+use Rattle.validation.proofs.survey.place_finding.Goals as goal
 
 pub returns-then-is_unaccepted : goal.returns-then-is_unaccepted
 unfolding finding

@@ -4,7 +4,7 @@ use native.Mathlib.Omega.{arith}
 use Rattle.words.proofs.Bounded.{told}
 use Rattle.validation.specs.Findings.{finding}
 use Rattle.validation.proofs.Clashes.{none_joins}
-use Rattle.validation.proofs.table.Table.target_finding.Goals as goal
+use Rattle.validation.proofs.target.target_finding.Goals as goal
 
 pub returns-then-is_unfit : goal.returns-then-is_unfit
 unfolding finding
