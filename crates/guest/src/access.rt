@@ -113,7 +113,8 @@ fn tell(registers: &mut [u8], access: Access, stop: Stop, address: u32)
     );
 }
 
-// Where in memory the byte of an access lies, or the refusal, of which the registers tell if it is a fault. The buffers stand apart here and below, as C
+// Where in memory the byte of an access lies, or the refusal, of which the registers tell if it is a fault. Their length is looked at before, which is
+// faster where it is wrong. The buffers stand apart here and below, as C
 // lends them: a write changes what a read and a fetch only look at.
 fn judge(
     memory: &[u8],
@@ -122,15 +123,13 @@ fn judge(
     access: Access,
     address: u32,
 ) -> Result<usize, Refusal>
+    requires { length registers.old ≡ registers_bytes }
     ensures value { answered result ≡ answer_of (guest_refusals (access_of access) (lent memory.now ledger.now) registers.old address) }
     ensures registers_after { registers.new ≡ guest_registers (access_of access) (lent memory.now ledger.now) registers.old address }
     ensures place { IfOk result (λ j. j ≡ byte_index (base (lent memory.now ledger.now)) address (active_walk (lent memory.now ledger.now) address)) }
     ensures in_memory { IfOk result (λ j. j < length memory.now) }
     ensures recorded { IfOk result (λ j. InLedger ledger.now (j / block_bytes + 1)) }
 {
-    if is_misfit_registers(registers) {
-        return Err(Refusal::Misfit);
-    }
     let region = Region::new(memory, ledger)?;
     let table = active_table(&region)?;
     let blocks = Blocks {
@@ -161,6 +160,9 @@ fn load(
     ensures ledger_value { lent memory.now ledger.now ≡ (guest_outcome (access_of access) (lent memory.now ledger.now) registers.old address).after }
     ensures registers_after { registers.new ≡ guest_registers (access_of access) (lent memory.now ledger.now) registers.old address }
 {
+    if is_misfit_registers(registers) {
+        return Err(Refusal::Misfit);
+    }
     let at = judge(memory, ledger, registers, access, address)?;
     Ok(memory[at])
 }
@@ -203,6 +205,9 @@ pub fn write(
     ensures ledger_after { lent memory.new ledger.new ≡ (guest_outcome (writes byte) (lent memory.old ledger.old) registers.old address).after }
     ensures registers_after { registers.new ≡ guest_registers (writes byte) (lent memory.old ledger.old) registers.old address }
 {
+    if is_misfit_registers(registers) {
+        return Err(Refusal::Misfit);
+    }
     let at = judge(memory, ledger, registers, Access::Write(byte), address)?;
     memory[at] = (byte % 0x100) as u8;
     clear_mark(ledger, at / BLOCK_BYTES);

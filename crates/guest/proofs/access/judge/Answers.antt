@@ -1,35 +1,19 @@
 -- The tests are those of the rules, in their order, on the words that the ledger holds.
-use mathlib.Core.Bool.{false≢true}
 use mathlib.Core.List.{List}
 use mathlib.Core.Path.{◌≡◌, ◌∙◌, ap}
 use Prim.Native.Nat.{ℕ}
 use native.Mathlib.Omega.{arith}
-use lib.ListN.{length}
 use Rattle.std.proofs.lemmas.Result.{err_from_is_err_and}
-use Rattle.words.proofs.Bounded.{told}
 use Rattle.rules.specs.Store.{Store, lent}
 use Rattle.rules.specs.Guest.{registers_after}
-use Rattle.rules.specs.Registers.{registers_bytes}
-use Rattle.rules.proofs.State.{equal, fits_stored}
+use Rattle.rules.proofs.State.{fits_stored}
 use Rattle.ledger.proofs.Judge.{refuses}
 use Rattle.guest.specs.Meaning.{access_of}
-use Rattle.guest.proofs.Accesses.{byte_lies, table_within, said_1_registers, said_1, said_21, said_walk}
+use Rattle.guest.proofs.Accesses.{byte_lies, table_within, said_1, said_21, said_walk}
 use Rattle.guest.proofs.access.judge.Goals as goal
-use Rattle.guest.proofs.access.judge.Goals.{Else-is_misfit_registers}
 
 parts : {s : Store} {memory ledger : List ℕ} → s ≡ lent memory ledger → (s.memory ≡ memory) × (s.ledger ≡ ledger)
 parts e = (ap (λ (s : Store). s.memory) e, ap (λ (s : Store). s.ledger) e)
-
--- what is not refused has the right length
-seventeen : (c : Else-is_misfit_registers) → length c.args.registers.now ≡ registers_bytes
-seventeen c = equal _ registers_bytes (told c.is_misfit_registers.ensures c.if-is_misfit_registers.false)
-
-pub returns-then-is_misfit_registers : goal.returns-then-is_misfit_registers
-returns-then-is_misfit_registers c =
-    let a = c.args in
-    let misfit = told c.is_misfit_registers.ensures c.if-is_misfit_registers.true in
-    let (answer, left) = said_1_registers (access_of a.access) (lent a.memory.now a.ledger.now) a.registers.now a.address (λ e. false≢true (rw e at misfit)) in
-    record { value = answer; registers_after = left; place = tt; in_memory = tt; recorded = tt }
 
 pub returns-in_err-region : goal.returns-in_err-region
 returns-in_err-region c =
@@ -41,7 +25,7 @@ returns-in_err-region c =
 pub returns-in_err-table : goal.returns-in_err-table
 returns-in_err-table c =
     let a = c.args in
-    let whole = seventeen (goal.at.returns-in_err-table c).Else-is_misfit_registers in
+    let whole = c.requires in
     let (m, l) = parts c.in_ok-region.ensures.region in
     let p = err_from_is_err_and c.from_residual-in_err-table.result c.from_residual-in_err-table.ensures.1 in
     let (answer, left) = said_21 (access_of a.access) (lent a.memory.now a.ledger.now) a.registers.now a.address (rw (m, l) at c.in_ok-region.region.fits) whole (rw (m, l) at c.in_err-table.ensures.value) (refuses _) in
@@ -64,7 +48,7 @@ pub returns-in-Ok : goal.returns-in-Ok
 unfolding registers_after
 returns-in-Ok c =
     let a = c.args in
-    let whole = seventeen (goal.at.returns-in-Ok c).Else-is_misfit_registers in
+    let whole = c.requires in
     let (m, l) = parts c.in_ok-region.ensures.region in
     let fits = rw (m, l) at c.in_ok-region.region.fits in
     let number = rw (c.base.ensures, c.in_ok-table.ensures.table, l) at c.in-Ok.ensures.value in
@@ -76,7 +60,7 @@ returns-in-Ok c =
 pub returns-in-Err : goal.returns-in-Err
 returns-in-Err c =
     let a = c.args in
-    let whole = seventeen (goal.at.returns-in-Err c).Else-is_misfit_registers in
+    let whole = c.requires in
     let (m, l) = parts c.in_ok-region.ensures.region in
     let number = rw (c.base.ensures, c.in_ok-table.ensures.table, l) at c.in-Err.ensures.value in
     let level = rw (c.base.ensures, c.in_ok-table.ensures.table, l) at c.in-Err.ensures.level in

@@ -1,5 +1,4 @@
 -- The table's entries are counted, and then its blocks get their type.
-use mathlib.Core.Path.{sym, ◌∙◌}
 use native.Mathlib.Omega.{arith}
 use Rattle.std.proofs.lemmas.Result.{err_from_is_err_and}
 use Rattle.rules.proofs.State.{fits_stored, within}

@@ -5,7 +5,7 @@ use Rattle.std.proofs.lemmas.Result.{err_from_is_err_and}
 use Rattle.words.proofs.Bounded.{any_none}
 use Rattle.rules.specs.Free.{free_outcome}
 use Rattle.rules.proofs.Refusals.{passed, now, rest}
-use Rattle.ledger.proofs.Judge.{decides, refused, refuses, accepted, leaves_refused, leaves_accepted}
+use Rattle.ledger.proofs.Judge.{decides, refused, refuses, leaves_refused}
 use Rattle.ledger.proofs.Regions.{same_memory, same_ledger}
 use Rattle.tables.proofs.Changing.{changed_or_refused}
 use Rattle.tables.proofs.free.free.Goals as goal
