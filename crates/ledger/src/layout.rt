@@ -139,10 +139,8 @@ pub fn record_word(ledger: &[u8], k: usize, b: usize) -> u32
     requires { ledger_head_bytes + ledger_record_bytes * b + 4 * k + 4 ≤ length ledger.now }
     ensures { result ≡ record_word ledger.now k b }
 {
-    words::word(
-        ledger,
-        LEDGER_HEAD_BYTES + LEDGER_RECORD_BYTES * b + WORD_BYTES * k,
-    )
+    let at = LEDGER_HEAD_BYTES + LEDGER_RECORD_BYTES * b + WORD_BYTES * k;
+    words::word(ledger, at)
 }
 
 pub fn put_record_word(ledger: &mut [u8], k: usize, b: usize, v: u32)

@@ -95,6 +95,7 @@ impl<'a> Region<'a> {
     ghost use Rattle.ledger.specs.Regions.{store_of};
 
     // The region of two buffers, unless refusal 1 applies.
+    #[inline]
     pub fn new(memory: &'a [u8], ledger: &'a [u8]) -> Result<Region<'a>, Refusal>
         ensures value { answered result ≡ answer_of (misfit_refusals (lent memory.now ledger.now)) }
         ensures region { IfOk result (λ r. store_of r ≡ lent memory.now ledger.now) }
