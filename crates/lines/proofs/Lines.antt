@@ -62,6 +62,15 @@ longest_answer_with_byte call answer byte hc ha hb =
       length-decimal 2 byte (omega arith),
     )
 
+-- the same bounds, by the lengths of the words
+pub words_answer : (call answer : ℕ) → call < 2 ^ 8 → answer < 2 ^ 32 → length (decimal call) + length (decimal answer) + 2 ≤ longest_line
+words_answer call answer hc ha = omega (arith, length_answer call answer, longest_answer call answer hc ha)
+
+pub words_answer_with_byte : (call answer byte : ℕ) → call < 2 ^ 8 → answer < 2 ^ 32 → byte < 2 ^ 8
+    → length (decimal call) + length (decimal answer) + length (decimal byte) + 3 ≤ longest_line
+words_answer_with_byte call answer byte hc ha hb =
+    omega (arith, length_answer_with_byte call answer byte, longest_answer_with_byte call answer byte hc ha hb)
+
 pub longest_bad : (obeyed : ℕ) → obeyed < 2 ^ 64 → length (text_of (Bad obeyed)) ≤ longest_line
 longest_bad obeyed h = omega (arith, length-bad obeyed, length-decimal 19 obeyed (omega arith))
 

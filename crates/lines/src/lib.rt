@@ -3,7 +3,8 @@
 
 ghost use Rattle.std.specs.Prelude.{◌≡◌, [], ◌∷◌, ◌++◌, ◌+◌, ◌-◌, ◌<◌, ◌≤◌, length};
 ghost use Rattle.lines.specs.Decimal.{decimal};
-ghost use Rattle.lines.specs.Lines.{text_of, fitting};
+ghost use Rattle.lines.specs.Lines.{text_of, longest_line, fitting};
+ghost use Rattle.lines.specs.Stored.{Stored};
 ghost use Rattle.lines.specs.Added.{Added};
 
 use words::put_bytes;
@@ -21,6 +22,59 @@ pub enum Line {
 // No line is longer: `bad`, a space, twenty digits and a line feed.
 pub const LONGEST_LINE: usize = 25;
 
+// Stores a byte at a place and gives the place after it; the three functions below store more bytes in the same way. As methods of `Text` they would
+// store `end` after each byte (docs/PERFORMANCE.md, "Today's forms").
+fn put_byte(text: &mut [u8], at: usize, byte: u8) -> usize
+    requires { at < length text.old }
+    ensures { Stored text.old at (byte ∷ []) text.new result }
+{
+    text[at] = byte;
+    at + 1
+}
+
+// By hand: std does not say that a `write!` succeeds where its writer does, and a line that fits is stored.
+fn put_decimal(text: &mut [u8], at: usize, v: u64) -> usize
+    requires { at + length (decimal v) ≤ length text.old }
+    ensures { Stored text.old at (decimal v) text.new result }
+{
+    if v < 10 {
+        return put_byte(text, at, b'0' + v as u8);
+    }
+    let end = put_decimal(text, at, v / 10);
+    put_byte(text, end, b'0' + (v % 10) as u8)
+}
+
+// A number and the character after it.
+fn put_number(text: &mut [u8], at: usize, v: u64, after: u8) -> usize
+    requires { at + length (decimal v) < length text.old }
+    ensures { Stored text.old at (decimal v ++ (after ∷ [])) text.new result }
+{
+    let end = put_decimal(text, at, v);
+    put_byte(text, end, after)
+}
+
+// A line, where there is room for the longest.
+fn put_line(text: &mut [u8], at: usize, line: Line) -> usize
+    requires { longest_line ≤ length text.old - at }
+    ensures { Stored text.old at (text_of line) text.new result }
+{
+    match line {
+        Line::Answer(call, answer) => {
+            let after_call = put_number(text, at, u64::from(call), b' ');
+            put_number(text, after_call, u64::from(answer), b'\n')
+        }
+        Line::AnswerWithByte(call, answer, byte) => {
+            let after_call = put_number(text, at, u64::from(call), b' ');
+            let after_answer = put_number(text, after_call, u64::from(answer), b' ');
+            put_number(text, after_answer, u64::from(byte), b'\n')
+        }
+        Line::Bad(obeyed) => {
+            put_bytes(text, at, b"bad ");
+            put_number(text, at + 4, obeyed, b'\n')
+        }
+    }
+}
+
 // A text in lent bytes, and the place after it, where more is added.
 #[derive(Drop)]
 pub struct Text<'a> {
@@ -29,68 +83,15 @@ pub struct Text<'a> {
 }
 
 impl Text<'_> {
-    fn push(&mut self, byte: u8)
-        requires { self.old.end < length self.old.bytes.now }
-        ensures same_reference { self.new.bytes.ghost_name ≡ self.old.bytes.ghost_name }
-        ensures added { Added self.old self.new (byte ∷ []) }
-    {
-        self.bytes[self.end] = byte;
-        self.end += 1;
-    }
-
-    fn push_bytes(&mut self, bytes: &[u8])
-        requires { self.old.end + length bytes.now ≤ length self.old.bytes.now }
-        ensures same_reference { self.new.bytes.ghost_name ≡ self.old.bytes.ghost_name }
-        ensures added { Added self.old self.new bytes.now }
-    {
-        put_bytes(self.bytes, self.end, bytes);
-        self.end += bytes.len();
-    }
-
-    // By hand: std does not say that a `write!` succeeds where its writer does, and a line that fits is stored.
-    fn push_decimal(&mut self, v: u64)
-        requires { self.old.end + length (decimal v) ≤ length self.old.bytes.now }
-        ensures same_reference { self.new.bytes.ghost_name ≡ self.old.bytes.ghost_name }
-        ensures added { Added self.old self.new (decimal v) }
-    {
-        if v >= 10 {
-            self.push_decimal(v / 10);
-        }
-        self.push(b'0' + (v % 10) as u8);
-    }
-
-    // A number and the character after it.
-    fn push_number(&mut self, v: u64, after: u8)
-        requires { self.old.end + length (decimal v) < length self.old.bytes.now }
-        ensures same_reference { self.new.bytes.ghost_name ≡ self.old.bytes.ghost_name }
-        ensures added { Added self.old self.new (decimal v ++ (after ∷ [])) }
-    {
-        self.push_decimal(v);
-        self.push(after);
-    }
-
-    // A line, where there is room for the longest, else nothing.
+    // Adds a line, where there is room for the longest, else nothing. Compiled into its callers, so that they keep `end` in a register: a call would load
+    // and store it for each line. `always`, since it is too large for the hint alone.
+    #[inline(always)]
     pub fn push_line(&mut self, line: Line)
         ensures same_reference { self.new.bytes.ghost_name ≡ self.old.bytes.ghost_name }
         ensures added { Added self.old self.new (fitting (length self.old.bytes.now - self.old.end) line) }
     {
-        if self.bytes.len().saturating_sub(self.end) < LONGEST_LINE {
-            return;
-        }
-        match line {
-            Line::Answer(call, answer) => {
-                self.push_number(u64::from(call), b' ');
-                self.push_number(u64::from(answer), b'\n');
-            }
-            Line::AnswerWithByte(call, answer, byte) => {
-                self.push_number(u64::from(call), b' ');
-                self.push_number(u64::from(answer), b' ');
-                self.push_number(u64::from(byte), b'\n');
-            }
-            Line::Bad(obeyed) => {
-                self.push_bytes(b"bad ");
-                self.push_number(obeyed, b'\n');
-            }
+        if self.bytes.len().saturating_sub(self.end) >= LONGEST_LINE {
+            self.end = put_line(self.bytes, self.end, line);
         }
     }
 }

@@ -28,10 +28,10 @@ const ACCEPTED: u32 = 0;
 fn line_of(call: u8, answer: u32, byte: u8) -> Line
     ensures { result ≡ line_of call answer byte }
 {
-    if answer == ACCEPTED && matches!(call, READ | FETCH) {
-        return Line::AnswerWithByte(call, answer, byte);
+    match (answer, call) {
+        (ACCEPTED, READ | FETCH) => Line::AnswerWithByte(call, answer, byte),
+        _ => Line::Answer(call, answer),
     }
-    Line::Answer(call, answer)
 }
 
 // Adds the lines of the first records, of as many as there are answers. Answers and bytes come apart, as the runner gives them to C.

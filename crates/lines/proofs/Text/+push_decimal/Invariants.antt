@@ -1,4 +1,0 @@
-use Rattle.lines.proofs.Text.+push_decimal.Given as goal
-
-abbrev pub decreases-push_decimal : goal.decreases-push_decimal
-decreases-push_decimal l = l.v
