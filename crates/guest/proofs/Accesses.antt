@@ -1,5 +1,5 @@
 -- Laws of accesses: which refusal answers, what the registers then are, and that the byte of an accepted one lies in the memory, in a block that has its record.
-use mathlib.Core.Bool.{Bool, true, false}
+use mathlib.Core.Bool.{Bool, true, false, false≢true}
 use mathlib.Core.List.{List, [], ◌∷◌}
 use mathlib.Core.Logic.{◌≢◌}
 use mathlib.Core.Path.{◌≡◌, refl, ◌∙◌}
@@ -115,6 +115,13 @@ module _ (a : Access) (s : Store) (registers : List ℕ) (addr : ℕ) where
     go : (k : ℕ) → k ≢ 0 → settle k s (guest_accepted a s addr) ≡ record { answer = k; after = s; byte = 0; hashed = 0 }
     go zero z = absurd (z refl)
     go (suc k) z = refl
+
+  -- registers of another length
+  pub outcome_misfit : misfit_registers registers ≡ true
+      → (guest_outcome a s registers addr ≡ record { answer = 1; after = s; byte = 0; hashed = 0 }) × (registers ≡ guest_registers a s registers addr)
+  outcome_misfit misfit =
+      let (answer, left) = said_1_registers (λ e. false≢true (rw e at misfit)) in
+      (outcome_refused answer (λ z. let f : ⊥ = omega arith in absurd f), left)
 
   pub outcome_accepted : 0 ≡ answer_of refusals → let new = guest_accepted a s addr in guest_outcome a s registers addr ≡ record { answer = 0; after = new.store; byte = new.byte; hashed = new.hashed }
   unfolding guest_outcome settle

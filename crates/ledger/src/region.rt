@@ -94,7 +94,8 @@ impl<'a> Region<'a> {
     ghost use Rattle.ledger.specs.Refusals.{answered};
     ghost use Rattle.ledger.specs.Regions.{store_of};
 
-    // The region of two buffers, unless refusal 1 applies.
+    // The region of two buffers, unless refusal 1 applies. Asks to be compiled into its callers: in the archives for ARMv7 for any alignment a call hands
+    // the region back through memory, byte by byte (docs/PERFORMANCE.md, "Today's forms").
     #[inline]
     pub fn new(memory: &'a [u8], ledger: &'a [u8]) -> Result<Region<'a>, Refusal>
         ensures value { answered result ≡ answer_of (misfit_refusals (lent memory.now ledger.now)) }
