@@ -69,8 +69,9 @@ fn put_line(text: &mut [u8], at: usize, line: Line) -> usize
             put_number(text, after_answer, u64::from(byte), b'\n')
         }
         Line::Bad(obeyed) => {
-            put_bytes(text, at, b"bad ");
-            put_number(text, at + 4, obeyed, b'\n')
+            let bad = b"bad ";
+            put_bytes(text, at, bad);
+            put_number(text, at + bad.len(), obeyed, b'\n')
         }
     }
 }
